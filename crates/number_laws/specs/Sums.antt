@@ -1,0 +1,7 @@
+-- Sums over the numbers below a limit.
+use Rattle.std.specs.Prelude.{ℕ, zero, suc, ◌+◌}
+
+-- f 0 + f 1 + .. up to the limit, which is not counted
+abbrev pub sum_below : ℕ → (ℕ → ℕ) → ℕ
+sum_below zero f = 0
+sum_below (suc n) f = sum_below n f + f n

@@ -1,0 +1,10 @@
+//! Laws of numbers on which the drawing, the rows, the dual values and the margins stand alike.
+//!
+//! The definitions and their laws are in `specs/` and `proofs/`; there is almost no code. A law is
+//! proved where a function's contract names it, so each of the small functions here stands for one.
+//! Begin with `positive`.
+#![tactic(auto)]
+
+mod positive;
+
+pub use positive::{positive_part, positive_part_laws};
