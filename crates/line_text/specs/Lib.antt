@@ -1,0 +1,4 @@
+pub mod Decimal
+pub mod Name
+pub mod Words
+pub mod Reading
