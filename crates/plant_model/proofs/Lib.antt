@@ -1,0 +1,12 @@
+pub mod PlaceNames
+pub mod FaultTests
+pub mod NoFaults
+pub mod PlaceLists
+pub mod OpsAreSound
+pub mod PlantIsSound
+pub mod OpNames
+pub mod Totals
+pub mod GreatestVolume
+pub mod TankLists
+pub mod SeenParts
+pub mod RelationLaws

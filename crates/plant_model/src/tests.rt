@@ -1,0 +1,3 @@
+mod plants;
+mod readers;
+mod refusals;
