@@ -1,0 +1,9 @@
+pub mod CountLaws
+pub mod EntryLaws
+pub mod HalfLaws
+pub mod LiveLaws
+pub mod PointLaws
+pub mod SetLaws
+pub mod SlotLaws
+pub mod SplitLaws
+pub mod TreeLaws

@@ -1,0 +1,6 @@
+use Rattle.std.proofs.Common.{arith}
+use Rattle.slot_box.proofs.SetLaws.{and-not}
+use Rattle.slot_box.proofs.split.without.Goals as goal
+
+pub returns : goal.returns
+returns c = and-not 64 c.args.set c.args.other (omega arith) (omega arith)

@@ -1,0 +1,6 @@
+pub mod Boxes
+pub mod Counting
+pub mod Entries
+pub mod Slots
+pub mod Splits
+pub mod Trees

@@ -1,0 +1,32 @@
+//! Boxes of slot forms, their splits, and the search tree that they make.
+//!
+//! A box says for each of its slots which operations may fill it, whether it may stay idle, and in which
+//! intervals volume, start and end lie. Whoever fills each slot by one entry that its slot allows has a
+//! point of the box. In a clause a box is the list of its slots.
+//!
+//! To the crates above this crate promises that a box always has a point, that `points` is how many it
+//! has, and that a split, where it is lawful, gives each point of the box to exactly one of two boxes,
+//! neither of them empty. So the leaves of a search tree have all points of its root between them.
+//!
+//! Begin with `boxes`, after `specs/Slots`, `specs/Entries` and `specs/Boxes`; `split` and
+//! `specs/Splits` have the two parts. `node` and `specs/Trees` have the search tree and which box each of
+//! its nodes has, `term` the entries of its leaves, `cut` the quality cuts that such entries name, and
+//! `task` what one worker hands to another.
+#![tactic(auto)]
+
+mod boxes;
+mod crossing;
+mod cut;
+mod node;
+mod slot;
+mod split;
+mod task;
+mod term;
+
+pub use boxes::SlotBox;
+pub use cut::{CutList, CutParams, NamedCut, NamedCuts};
+pub use node::{Leaf, Node, NodeList};
+pub use slot::{IDLE, Slot, Span};
+pub use split::{Split, SplitFault, SplitKind};
+pub use task::{Task, Tasks};
+pub use term::{RowName, Term, Terms};
