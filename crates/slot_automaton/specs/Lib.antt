@@ -1,0 +1,4 @@
+pub mod Blocked
+pub mod Independence
+pub mod Laws
+pub mod Normal
