@@ -1,0 +1,8 @@
+use Rattle.std.proofs.Common.{◌≡◌, drop}
+use Rattle.serde_json.specs.View.{items_view}
+use Rattle.plant_text.specs.Kinds.{pair, each_in}
+use Rattle.plant_text.proofs.Lists.{after}
+use Rattle.plant_text.proofs.kinds.pairs_in.Given as goal
+
+abbrev pub invariant-loop-value : goal.invariant-loop-value
+invariant-loop-value l = after l.found.items (each_in pair (items_view (drop l.value-index l.values))) ≡ each_in pair (items_view l.values)

@@ -1,0 +1,6 @@
+pub mod Names
+pub mod Kinds
+pub mod Walk
+pub mod Gives
+pub mod PlantText
+pub mod Seen

@@ -1,0 +1,194 @@
+-- The walk over a plant text: which parts its value says, or else the first place at which it has not its form.
+use Rattle.std.specs.Prelude.{ℕ, ◌+◌, ◌-◌, ◌^◌, ◌&&◌, ◌==◌, min, ℤ, pos, Bool, true, false, List, [], ◌∷◌, map, Option, Some, None, option_and_then, is_some, Result, Ok, Err, if◌then◌else◌, codes}
+use Rattle.std.specs.List.{list_any}
+use Rattle.std.specs.Option.{ok_or, option_map_or}
+use Rattle.std.specs.Str.{bytes_eq}
+use Rattle.std.specs.Ordering.{int_eq}
+use Rattle.serde_json.specs.Data.{Data, Items, no_items, item, Members, no_members, member}
+use Rattle.serde_json.specs.Find.{get, as_array, as_object, as_str, as_bool}
+use Rattle.plant_model.specs.declared.place.Place.{Place}
+use Rattle.plant_model.specs.declared.place.Section.{Section}
+use Rattle.plant_model.specs.declared.place.Section.TheVariants as section
+use Rattle.plant_model.specs.declared.place.Key.{Key}
+use Rattle.plant_model.specs.declared.place.Key.TheVariants as key
+use Rattle.plant_model.specs.declared.parts.Parts.{Parts}
+use Rattle.plant_model.specs.declared.parts.CrudePart.{CrudePart}
+use Rattle.plant_model.specs.declared.parts.VesselPart.{VesselPart}
+use Rattle.plant_model.specs.declared.parts.TankPart.{TankPart}
+use Rattle.plant_model.specs.declared.parts.UnitPart.{UnitPart}
+use Rattle.plant_model.specs.declared.parts.OperationPart.{OperationPart}
+use Rattle.plant_text.specs.declared.fault.PlantTextFault.{PlantTextFault}
+use Rattle.plant_text.specs.declared.fault.PlantTextFault.TheVariants.{Shape}
+use Rattle.plant_text.specs.Names.{section_name, key_name}
+use Rattle.plant_text.specs.Kinds.{whole_number, whole_numbers, pair, pairs}
+
+-- what a step of the walk gives: a value, or the fault that ends the walk
+infixl 10 ◌>>=◌
+abbrev pub ◌>>=◌ : {A B : Type 0} → Result A PlantTextFault → (A → Result B PlantTextFault) → Result B PlantTextFault
+(Ok x) >>= f = f x
+(Err fault) >>= f = Err fault
+
+-- the walk ends at this place of an entry
+abbrev pub misshapen : Section → ℕ → Key → PlantTextFault
+misshapen s index k = Shape (record { section = s; index = index; key = k })
+
+-- the walk ends there unless the test holds
+abbrev pub holds_or : PlantTextFault → Bool → Result Bool PlantTextFault
+holds_or fault true = Ok true
+holds_or fault false = Err fault
+
+-- what an entry has under a key, of the kind that is wanted there
+abbrev pub field : {X : Type 0} → (Data → Option X) → Section → ℕ → Key → Data → Result X PlantTextFault
+field kind s index k entry = ok_or (option_and_then kind (get (key_name k) entry)) (misshapen s index k)
+
+-- each of these members has one of the keys
+abbrev pub keyed_by : List (List ℕ) → Members → Bool
+keyed_by keys no_members = true
+keyed_by keys (member name value others) = list_any (bytes_eq name) keys && keyed_by keys others
+
+-- no key but these
+abbrev pub has_only : List (List ℕ) → Data → Bool
+has_only keys entry = option_map_or (keyed_by keys) (as_object entry) true
+
+-- an entry is an object
+abbrev pub opened : Section → ℕ → Data → Result Bool PlantTextFault
+opened s index entry = holds_or (misshapen s index key.Entry) (is_some (as_object entry))
+
+-- an entry has no key but these
+abbrev pub closed : Section → ℕ → List (List ℕ) → Data → Result Bool PlantTextFault
+closed s index keys entry = holds_or (misshapen s index key.Entry) (has_only keys entry)
+
+-- a property is its name
+unfoldable pub property_at : ℕ → Data → Result (List ℕ) PlantTextFault
+property_at index entry = ok_or (as_str entry) (misshapen section.Properties index key.Name)
+
+-- a crude, with its margin and its properties
+unfoldable pub crude_at : ℕ → Data → Result CrudePart PlantTextFault
+crude_at index entry = do
+  _ ← opened section.Crudes index entry
+  name ← field as_str section.Crudes index key.Name entry
+  margin ← field whole_number section.Crudes index key.Margin entry
+  properties ← field whole_numbers section.Crudes index key.Properties entry
+  _ ← closed section.Crudes index (codes "name" ∷ codes "margin" ∷ codes "properties" ∷ []) entry
+  Ok (record { name = name; margin = margin; properties = properties })
+
+-- a vessel, with its arrival and its cargo
+unfoldable pub vessel_at : ℕ → Data → Result VesselPart PlantTextFault
+vessel_at index entry = do
+  _ ← opened section.Vessels index entry
+  name ← field as_str section.Vessels index key.Name entry
+  arrival ← field whole_number section.Vessels index key.Arrival entry
+  amounts ← field whole_numbers section.Vessels index key.Amounts entry
+  _ ← closed section.Vessels index (codes "name" ∷ codes "arrival" ∷ codes "amounts" ∷ []) entry
+  Ok (record { name = name; arrival = arrival; amounts = amounts })
+
+-- a storage tank owes nothing: its demand is 0, 0
+unfoldable pub storage_at : ℕ → Data → Result TankPart PlantTextFault
+storage_at index entry = do
+  _ ← opened section.Storage index entry
+  name ← field as_str section.Storage index key.Name entry
+  min ← field whole_number section.Storage index key.Min entry
+  max ← field whole_number section.Storage index key.Max entry
+  amounts ← field whole_numbers section.Storage index key.Amounts entry
+  _ ← closed section.Storage index (codes "name" ∷ codes "min" ∷ codes "max" ∷ codes "amounts" ∷ []) entry
+  Ok (record { name = name; min = min; max = max; amounts = amounts; demand = record { lo = pos 0; hi = pos 0 } })
+
+-- a charging tank, with its levels, what it holds at first, and its demand
+unfoldable pub charging_at : ℕ → Data → Result TankPart PlantTextFault
+charging_at index entry = do
+  _ ← opened section.Charging index entry
+  name ← field as_str section.Charging index key.Name entry
+  min ← field whole_number section.Charging index key.Min entry
+  max ← field whole_number section.Charging index key.Max entry
+  amounts ← field whole_numbers section.Charging index key.Amounts entry
+  demand ← field pair section.Charging index key.Demand entry
+  _ ← closed section.Charging index (codes "name" ∷ codes "min" ∷ codes "max" ∷ codes "amounts" ∷ codes "demand" ∷ []) entry
+  Ok (record { name = name; min = min; max = max; amounts = amounts; demand = demand })
+
+-- a unit, and how often it is charged
+unfoldable pub unit_at : ℕ → Data → Result UnitPart PlantTextFault
+unit_at index entry = do
+  _ ← opened section.Units index entry
+  name ← field as_str section.Units index key.Name entry
+  continuous ← field as_bool section.Units index key.Continuous entry
+  charges ← field pair section.Units index key.Charges entry
+  _ ← closed section.Units index (codes "name" ∷ codes "continuous" ∷ codes "charges" ∷ []) entry
+  Ok (record { name = name; continuous = continuous; charges = charges })
+
+-- an operation, by the names of its places, with its ranges
+unfoldable pub operation_at : ℕ → Data → Result OperationPart PlantTextFault
+operation_at index entry = do
+  _ ← opened section.Operations index entry
+  name ← field as_str section.Operations index key.Name entry
+  from ← field as_str section.Operations index key.From entry
+  to ← field as_str section.Operations index key.To entry
+  rate ← field pair section.Operations index key.Rate entry
+  volume ← field pair section.Operations index key.Volume entry
+  window ← field pair section.Operations index key.Window entry
+  limits ← field pairs section.Operations index key.Limits entry
+  _ ← closed section.Operations index (codes "name" ∷ codes "from" ∷ codes "to" ∷ codes "rate" ∷ codes "volume" ∷ codes "window" ∷ codes "limits" ∷ []) entry
+  Ok (record { name = name; from = from; to = to; rate = rate; volume = volume; window = window; limits = limits })
+
+-- entries are numbered from 1; past the greatest number that a place can have they keep that number
+abbrev pub next_index : ℕ → ℕ
+next_index index = min (index + 1) (2 ^ 32 - 1)
+
+-- the entries of a section in their order
+unfoldable pub entries_from : {X : Type 0} → (ℕ → Data → Result X PlantTextFault) → ℕ → Items → Result (List X) PlantTextFault
+entries_from entry_at index no_items = Ok []
+entries_from entry_at index (item entry others) = do
+  first ← entry_at index entry
+  rest ← entries_from entry_at (next_index index) others
+  Ok (first ∷ rest)
+
+-- the list that the plant has for a section
+abbrev pub section_of : Section → Data → Result Items PlantTextFault
+section_of s whole = ok_or (option_and_then as_array (get (section_name s) whole)) (misshapen s 0 key.List)
+
+-- the format is the number 1
+abbrev pub format_one : Data → Option ℤ
+format_one value = option_and_then (λ z. if int_eq z (pos 1) then Some z else None) (whole_number value)
+
+-- the keys of a plant
+abbrev pub plant_keys : List (List ℕ)
+plant_keys = codes "format" ∷ codes "horizon" ∷ codes "properties" ∷ codes "crudes" ∷ codes "vessels" ∷ codes "storage" ∷ codes "charging" ∷ codes "units" ∷ codes "operations" ∷ []
+
+-- the lists that a plant has for its sections, and its horizon
+pub record Sections : Type 0 where
+  pub horizon : ℤ
+  pub properties : Items
+  pub crudes : Items
+  pub vessels : Items
+  pub storage : Items
+  pub charging : Items
+  pub units : Items
+  pub operations : Items
+
+-- the plant as a whole: its keys are there and of their kinds, in order, and there are no others
+unfoldable pub sections_of : Data → Result Sections PlantTextFault
+sections_of whole = do
+  _ ← opened section.Plant 0 whole
+  format ← field format_one section.Plant 0 key.Format whole
+  horizon ← field whole_number section.Plant 0 key.Horizon whole
+  properties ← section_of section.Properties whole
+  crudes ← section_of section.Crudes whole
+  vessels ← section_of section.Vessels whole
+  storage ← section_of section.Storage whole
+  charging ← section_of section.Charging whole
+  units ← section_of section.Units whole
+  operations ← section_of section.Operations whole
+  _ ← closed section.Plant 0 plant_keys whole
+  Ok (record { horizon = horizon; properties = properties; crudes = crudes; vessels = vessels; storage = storage; charging = charging; units = units; operations = operations })
+
+-- then its sections in order, each entry by entry
+unfoldable pub parts_of : Data → Result Parts PlantTextFault
+parts_of whole = do
+  s ← sections_of whole
+  properties ← entries_from property_at 1 s.properties
+  crudes ← entries_from crude_at 1 s.crudes
+  vessels ← entries_from vessel_at 1 s.vessels
+  storage ← entries_from storage_at 1 s.storage
+  charging ← entries_from charging_at 1 s.charging
+  units ← entries_from unit_at 1 s.units
+  operations ← entries_from operation_at 1 s.operations
+  Ok (record { horizon = s.horizon; properties = properties; crudes = crudes; vessels = vessels; storage = storage; charging = charging; units = units; operations = operations })
