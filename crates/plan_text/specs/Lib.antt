@@ -1,0 +1,2 @@
+pub mod OpLine
+pub mod Fields
