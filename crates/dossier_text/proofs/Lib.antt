@@ -1,0 +1,13 @@
+pub mod Joining
+pub mod FewLaws
+pub mod LineLaws
+pub mod StepLaws
+pub mod TermLaws
+pub mod EachLaws
+pub mod CutLaws
+pub mod NodeLaws
+pub mod EachLineLaws
+pub mod HeadLaws
+pub mod ClaimLaws
+pub mod ListLaws
+pub mod DossierLaws

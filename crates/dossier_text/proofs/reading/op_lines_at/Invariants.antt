@@ -1,0 +1,10 @@
+use Rattle.std.proofs.Common.{◌≡◌, ◌-◌, length}
+use Rattle.dossier_text.specs.Reading.{each_line, numbered_op_at}
+use Rattle.dossier_text.proofs.LineLaws.{with_front}
+use Rattle.dossier_text.proofs.reading.op_lines_at.Given as goal
+
+-- what was read and what is left make what all lines make
+abbrev pub invariant-loop-index : goal.invariant-loop-index
+invariant-loop-index l =
+    (length l.lines ≡ l.index)
+    × (with_front l.lines (each_line numbered_op_at (l.count - l.index) l.index l.rest) ≡ each_line numbered_op_at l.count 0 l.bytes)

@@ -1,0 +1,11 @@
+pub mod Entries
+pub mod Nodes
+pub mod Text
+pub mod Ranges
+pub mod Faults
+pub mod WordReading
+pub mod TermReading
+pub mod CutReading
+pub mod NodeReading
+pub mod HeadReading
+pub mod Reading
