@@ -1,0 +1,11 @@
+use Rattle.std.proofs.Common.{◌≡◌, ◌*◌, ◌≤◌}
+use Rattle.number_laws.specs.Positive.{positive_part}
+use Rattle.number_laws.specs.Sums.{sum_below}
+use Rattle.plant_model.specs.Parts.{margin_of}
+use Rattle.leaf_value.proofs.plain.most_gain.Given as goal
+
+abbrev pub invariant-loop-c : goal.invariant-loop-c
+invariant-loop-c l = record {
+  so_far : l.gain ≡ sum_below l.c (λ c. positive_part (margin_of l.plant c) * l.volume);
+  most : l.gain ≤ l.c * 10000000000000;
+}
