@@ -1,0 +1,35 @@
+-- How a run ends that owed an answer.
+use Rattle.std.proofs.Common.{◌≡◌, ◌<◌, List, Result, Ok, Err, refl, ap, sym, subst, inl, inr, arith}
+use Rattle.std.specs.Prelude.{IfOk, ℕ}
+use Rattle.plant_model.specs.declared.parts.Parts.{Parts}
+use Rattle.plant_text.specs.declared.fault.PlantTextFault.{PlantTextFault}
+use Rattle.plant_text.specs.declared.fault.PlantTextFault.TheVariants as fault
+use Rattle.plant_text.specs.PlantText.{plant_of}
+use Rattle.crude_run.specs.declared.answer.Answer.{Answer}
+use Rattle.crude_run.specs.declared.words.Ask.{Ask}
+use Rattle.crude_run.specs.Files.{Files, FileRead, bytes, failed, longer, MayGive}
+use Rattle.crude_run.specs.Words.{IsAskInRange, IsPlainLine}
+use Rattle.crude_run.specs.declared.words.Command.TheVariants.{Solve}
+use Rattle.crude_run.specs.declared.files.TheConstants.{PLANT_LIMIT}
+use Rattle.std.specs.declared.alloc.AllocError.{AllocError}
+use Rattle.crude_run.specs.Solving.{Solves}
+use Rattle.crude_run.specs.Answered.{SolvesText, SolvesRead, Serves, CallsFor, Outlet, Answered}
+
+text_below : (ask : Ask) (read : Result Parts PlantTextFault) (answer : Answer) → SolvesText ask read answer → answer.status < 71
+text_below ask (Ok parts) answer owed = elim owed.ended [ inl is ↦ rw is (omega arith) | inr (inl is) ↦ rw is (omega arith) | inr (inr is) ↦ rw is (omega arith) ]
+text_below ask (Err fault.Json) answer owed = rw owed (omega arith)
+text_below ask (Err (fault.Shape place)) answer owed = rw owed (omega arith)
+text_below ask (Err (fault.Plant found)) answer owed = rw owed (omega arith)
+text_below ask (Err (fault.NotYet section)) answer owed = rw owed (omega arith)
+text_below ask (Err fault.Memory) answer owed = absurd owed
+
+-- an answer that `solve` owes has a status below those of runs that end short
+pub solves_below : (ask : Ask) (read : FileRead) (answer : Answer) → SolvesRead ask read answer → answer.status < 71
+solves_below ask failed answer owed = rw owed (omega arith)
+solves_below ask longer answer owed = rw owed (omega arith)
+solves_below ask (bytes found) answer owed = text_below ask (plant_of found) answer owed
+
+-- bytes that reading may have given are served
+pub serves_bytes : (plant : List ℕ) (ask : Ask) (files : Files) (found : List ℕ) (made : Result Answer AllocError) → MayGive files plant PLANT_LIMIT (bytes found) → IfOk made (SolvesText ask (plant_of found)) → IfOk made (Serves (Solve plant ask) files)
+serves_bytes plant ask files found (Ok answer) may owed = (bytes found, may, owed)
+serves_bytes plant ask files found (Err refused) may owed = tt

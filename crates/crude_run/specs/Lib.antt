@@ -1,0 +1,6 @@
+pub mod Words
+pub mod WordReading
+pub mod Texts
+pub mod Solving
+pub mod Files
+pub mod Answered

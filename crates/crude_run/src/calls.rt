@@ -1,0 +1,41 @@
+ghost use Rattle.std.specs.Prelude.{map, string_bytes};
+ghost use Rattle.crude_run.specs.Files.{files_between};
+ghost use Rattle.crude_run.specs.Answered.{CallsFor, Answered, outlet_between};
+
+use crate::answer::words_refused;
+use crate::send::finish;
+use crate::solve::solve_file_alone;
+use crate::status::{NO_MEMORY, Status};
+use crate::words::{Command, WordFault, read_words};
+use outer_edge::{Gate, Shelf, Sink};
+use std::alloc::Global;
+
+/// Does what the words ask for: reads files from the shelf, and writes the answer into the sink.
+///
+/// The words are those after the program's name. The whole text is made before the first write.
+pub fn run<H: Shelf, K: Sink, G: Gate>(
+    alloc: Global,
+    words: &[String],
+    shelf: &mut H,
+    out: &mut K,
+    gate: &G,
+) -> Status
+    ensures { Answered (CallsFor (map string_bytes words.now) (files_between H.told H.faults H.longs shelf.old shelf.new))
+        (outlet_between K.taken K.faults out.old out.new) result }
+{
+    match read_words(alloc, words) {
+        Ok(Command::Solve { plant, ask }) => {
+            solve_file_alone(
+                alloc,
+                plant.as_str(),
+                ask.slots,
+                ask.nodes,
+                shelf,
+                out,
+                gate,
+            )
+        }
+        Err(WordFault::Words) => finish(words_refused(alloc), out),
+        Err(WordFault::Memory) => Status::new(NO_MEMORY),
+    }
+}

@@ -1,0 +1,31 @@
+//! The program's one call: words in, files read, text written, status out.
+//!
+//! [`run`] reads the words, reads the files that they name from a shelf, does the work and writes its
+//! text into a sink. Its contract is the whole promise of the program. Begin with `specs/Answered.antt`:
+//! `Answered` says how a run ends, `CallsFor` what the words call for, and `Serves` what a command
+//! answers by its files; from there `specs/Solving.antt` leads down to the plant, the boxes and their
+//! values.
+#![tactic(auto)]
+
+mod answer;
+mod calls;
+mod files;
+mod send;
+mod solve;
+mod status;
+mod words;
+
+pub use answer::Answer;
+pub use calls::run;
+pub use files::PLANT_LIMIT;
+pub use solve::{solve_alone, solve_file_alone};
+pub use status::{
+    INFEASIBLE, NO_MEMORY, NONE_FOUND, NOT_YET, PLAN_FOUND, PLANT_REFUSED, READ_FAILED, Status,
+    TOO_LONG, WORDS_REFUSED, WRITE_FAILED,
+};
+pub use words::{Ask, Command, FileName, WordFault, read_words};
+
+#[cfg(test)]
+mod samples;
+#[cfg(test)]
+mod tests;

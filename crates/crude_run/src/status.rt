@@ -1,0 +1,55 @@
+ghost use Rattle.std.specs.Prelude.{◌≡◌};
+
+use std::marker::Model;
+
+/// A plan was found.
+pub const PLAN_FOUND: u8 = 0;
+/// No plan exists.
+pub const INFEASIBLE: u8 = 3;
+/// No plan was found.
+pub const NONE_FOUND: u8 = 4;
+/// The words are no plain line.
+pub const WORDS_REFUSED: u8 = 64;
+/// The plant text is no plant.
+pub const PLANT_REFUSED: u8 = 65;
+/// A file could not be read.
+pub const READ_FAILED: u8 = 66;
+/// A file has more bytes than its limit.
+pub const TOO_LONG: u8 = 67;
+/// The plant has a form that is not built yet.
+pub const NOT_YET: u8 = 69;
+/// Memory ran out.
+pub const NO_MEMORY: u8 = 71;
+/// The text could not be written.
+pub const WRITE_FAILED: u8 = 74;
+
+/// How the program ends.
+#[derive(Clone, Copy, Debug, PartialEq, Eq)]
+pub struct Status {
+    code: u8,
+}
+
+impl Model for Status {
+    ghost use Rattle.std.specs.Prelude.{ℕ};
+
+    ghost Value = { ℕ };
+
+    ghost view = { λ status. status.code };
+
+    ghost inverse = { λ code. record { code = code } };
+}
+
+impl Status {
+    pub(crate) fn new(code: u8) -> Status
+        ensures { result ≡ code }
+    {
+        Status { code }
+    }
+
+    /// The number with which the process ends.
+    pub fn code(&self) -> u8
+        ensures { result ≡ self.now }
+    {
+        self.code
+    }
+}

@@ -1,0 +1,162 @@
+ghost use Rattle.std.specs.Prelude.{◌≡◌, ◌≤◌, ℕ, map, string_bytes, decimal, Err, IfOk, IfSome, IfNone};
+ghost use Rattle.crude_run.specs.declared.words.Ask.{Ask};
+ghost use Rattle.crude_run.specs.Words.{is_file_word, IsPlainLine, AreRefused};
+ghost use Rattle.crude_run.specs.WordReading.{is_solve, IsAskOf, IsSolveLine};
+
+use line_text::{decimal_laws, read_decimal};
+use std::alloc::{AllocError, Global};
+use std::marker::Model;
+
+/// The name of a file, as it stood on the command line.
+#[derive(Debug, Drop)]
+pub struct FileName {
+    text: String,
+}
+
+impl Model for FileName {
+    ghost use Rattle.std.specs.Prelude.{List, ℕ, string_bytes};
+
+    ghost Value = { List ℕ };
+
+    ghost view = { λ name. string_bytes name.text };
+}
+
+impl FileName {
+    pub fn as_str(&self) -> &str
+        ensures { result.now ≡ self.now }
+    {
+        self.text.as_str()
+    }
+}
+
+/// How much a search may do: with how many slots, how many inner nodes and how many workers.
+#[derive(Clone, Copy, Debug, PartialEq, Eq)]
+pub struct Ask {
+    pub slots: u32,
+    pub nodes: u32,
+    pub workers: u32,
+}
+
+/// What a plain line asks for.
+#[derive(Debug, Drop)]
+pub enum Command {
+    /// A plan for the plant of this file, and a bound that no plan exceeds.
+    Solve { plant: FileName, ask: Ask },
+}
+
+/// Why words are no command.
+#[derive(Clone, Copy, Debug, PartialEq, Eq)]
+pub enum WordFault {
+    /// They are no plain line in range.
+    Words,
+    /// Memory ran out.
+    Memory,
+}
+
+impl From<AllocError> for WordFault {
+    ghost use Rattle.std.specs.Prelude.{◌≡◌};
+    ghost use Rattle.crude_run.specs.declared.words.WordFault.TheVariants.{Memory};
+
+    ghost from_gives = { λ _ fault. fault ≡ Memory };
+
+    fn from(_refused: AllocError) -> WordFault {
+        WordFault::Memory
+    }
+}
+
+/// The command of a plain line.
+pub fn read_words(alloc: Global, words: &[String]) -> Result<Command, WordFault>
+    ensures plain { IfOk result (λ command. IsPlainLine (map string_bytes words.now) command) }
+    ensures refused { result ≡ Err WordFault.Words → AreRefused (map string_bytes words.now) }
+{
+    let Some(ask) = read_line(words) else {
+        return Err(WordFault::Words);
+    };
+    let text = words[1].clone()?;
+    Ok(Command::Solve {
+        plant: FileName { text },
+        ask,
+    })
+}
+
+/// What a plain line of `solve` asks for.
+fn read_line(words: &[String]) -> Option<Ask>
+    ensures found { IfSome result (λ ask. IsSolveLine (map string_bytes words.now) ask) }
+    ensures none { IfNone result ((ask : Ask) → IsSolveLine (map string_bytes words.now) ask → ⊥) }
+{
+    match words {
+        [
+            verb,
+            plant,
+            slots_option,
+            slots,
+            nodes_option,
+            nodes,
+            workers_option,
+            workers,
+        ] => {
+            let named = is_solve(
+                verb.as_str(),
+                plant.as_str(),
+                slots_option.as_str(),
+                nodes_option.as_str(),
+                workers_option.as_str(),
+            );
+            if !named {
+                return None;
+            }
+            read_ask(slots.as_str(), nodes.as_str(), workers.as_str())
+        }
+        _ => None,
+    }
+}
+
+/// Whether the words of a line that are no numbers are those of `solve`.
+fn is_solve(
+    verb: &str,
+    plant: &str,
+    slots_option: &str,
+    nodes_option: &str,
+    workers_option: &str,
+) -> bool
+    ensures { result ≡ is_solve verb.now plant.now slots_option.now nodes_option.now workers_option.now }
+{
+    verb == "solve"
+        && is_file_word(plant)
+        && slots_option == "--slots"
+        && nodes_option == "--nodes"
+        && workers_option == "--workers"
+}
+
+/// Whether the word names a file.
+fn is_file_word(word: &str) -> bool
+    ensures { result ≡ is_file_word word.now }
+{
+    match word.as_bytes() {
+        [] => false,
+        [first, ..] => word.len() <= 255 && *first != b'-',
+    }
+}
+
+/// The numbers of a line, each in its range.
+fn read_ask(slots: &str, nodes: &str, workers: &str) -> Option<Ask>
+    ensures found { IfSome result (IsAskOf slots.now nodes.now workers.now) }
+    ensures none { IfNone result ((ask : Ask) → IsAskOf slots.now nodes.now workers.now ask → ⊥) }
+{
+    let ask = Ask {
+        slots: read_number(slots, 1, 40)?,
+        nodes: read_number(nodes, 0, 0)?,
+        workers: read_number(workers, 1, 1)?,
+    };
+    Some(ask)
+}
+
+/// The number of a word, if it lies between `least` and `most`.
+fn read_number(word: &str, least: u32, most: u32) -> Option<u32>
+    ensures found { IfSome result (λ n. (word.now ≡ decimal n) × (least ≤ n) × (n ≤ most)) }
+    ensures none { IfNone result ((n : ℕ) → word.now ≡ decimal n → least ≤ n → n ≤ most → ⊥) }
+{
+    let number = read_decimal(word.as_bytes(), u64::from(most))? as u32;
+    decimal_laws();
+    if number < least { None } else { Some(number) }
+}
