@@ -26,6 +26,4 @@ pub use status::{
 pub use words::{Ask, Command, FileName, WordFault, read_words};
 
 #[cfg(test)]
-mod samples;
-#[cfg(test)]
 mod tests;
