@@ -1,2 +1,5 @@
+pub mod FloorLaws
 pub mod PositiveLaws
+pub mod ProductLaws
+pub mod SignedSumLaws
 pub mod SumLaws

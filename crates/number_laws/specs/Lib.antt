@@ -1,2 +1,4 @@
 pub mod Positive
 pub mod Sums
+pub mod Floors
+pub mod SignedSums
