@@ -65,7 +65,7 @@ idle_live s slot lies =
     let set = slot.set in
     le-leb _ _ (omega arith)
 
-idle_lies : (s : Slot) → IsSlot s → idle_is_live s ≡ true → LiesIn s idle
+pub idle_lies : (s : Slot) → IsSlot s → idle_is_live s ≡ true → LiesIn s idle
 idle_lies s slot live =
     let large = leb-true _ _ live in
     elim (cases_Bool (has_zeros s)) [

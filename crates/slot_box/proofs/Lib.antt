@@ -1,9 +1,12 @@
+pub mod BoxLaws
 pub mod CountLaws
 pub mod EntryLaws
 pub mod HalfLaws
 pub mod LiveLaws
+pub mod OnlyLaws
 pub mod PointLaws
 pub mod SetLaws
 pub mod SlotLaws
 pub mod SplitLaws
 pub mod TreeLaws
+pub mod DivisionLaws

@@ -18,7 +18,7 @@ use Rattle.slot_box.proofs.SetLaws.{digit_from_set, set_from_digit, digit_cases}
 
 -- ---- one digit alone
 
-alone : (n k : ℕ) → bit_at n k ≡ 1 → ((i : ℕ) → HasDigit n i → i ≡ k) → n ≡ 2 ^ k
+pub alone : (n k : ℕ) → bit_at n k ≡ 1 → ((i : ℕ) → HasDigit n i → i ≡ k) → n ≡ 2 ^ k
 alone n k there only = same_from_bits n (2 ^ k) each
   where
     each : (i : ℕ) → bit_at n i ≡ bit_at (2 ^ k) i
@@ -32,21 +32,21 @@ alone n k there only = same_from_bits n (2 ^ k) each
               ]
         ]
 
-pow_only : (k i : ℕ) → HasDigit (2 ^ k) i → i ≡ k
+pub pow_only : (k i : ℕ) → HasDigit (2 ^ k) i → i ≡ k
 pow_only k i there =
     elim (cases_eq i k) [
       | inl same ↦ same
       | inr other ↦ absurd (let none = bit_at-pow_other k i other in omega arith)
     ]
 
-power_from_ones : (n : ℕ) → n < 2 ^ 64 → ones n ≡ 1 → n ≡ 2 ^ trailing_zeros w64 n
+pub power_from_ones : (n : ℕ) → n < 2 ^ 64 → ones n ≡ 1 → n ≡ 2 ^ trailing_zeros w64 n
 power_from_ones n small one =
     let some : 0 < n = elim (eq-zero-or-pos n) [ inl none ↦ absurd (let nothing = ones-le 0 n (omega arith) in omega arith) | inr more ↦ more ] in
     let lowest = bit_at-trailing_zeros w64 n some small in
     let single = one_from_count (HasDigit n) (subst (IsCountOf (HasDigit n)) one (digits 64 n small)) in
     alone n _ lowest.1 (λ i there. single.2 i there ∙ sym (single.2 _ lowest.1))
 
-ones_from_power : (k : ℕ) → k < 64 → ones (2 ^ k) ≡ 1
+pub ones_from_power : (k : ℕ) → k < 64 → ones (2 ^ k) ≡ 1
 ones_from_power k small =
     count_from_one (HasDigit (2 ^ k)) _ (digits 64 (2 ^ k) (pow_below k 64 small)) (k, bit_at-pow_same k, pow_only k)
 

@@ -3,7 +3,6 @@ use Rattle.std.proofs.Common.{◌≡◌, ℕ, zero, suc, inl, inr, ◌+◌, ◌*
 use Rattle.std.specs.Prelude.{sum_by}
 use Rattle.std.proofs.lemmas.List.Elements.{recursion_from_All}
 use Rattle.std.proofs.lemmas.List.Sums.{sum_by-append}
-use Rattle.slot_box.specs.declared.node.Leaf.{Leaf as LeafKind}
 use Rattle.slot_box.specs.declared.node.Node.{Node}
 use Rattle.slot_box.specs.declared.node.Node.TheVariants.{Inner, Leaf}
 use Rattle.slot_box.specs.declared.slot.Slot.{Slot}
@@ -12,7 +11,7 @@ use Rattle.slot_box.specs.Boxes.{IsPoint, IsBox, points_of}
 use Rattle.slot_box.specs.Entries.{Entry}
 use Rattle.slot_box.specs.Slots.{IsSlot}
 use Rattle.slot_box.specs.Splits.{IsLawfulSplit, IsPartition, left_of, right_of}
-use Rattle.slot_box.specs.Trees.{HasBox, root_box, left_part, right_part, IsNodeOf, IsSearchTree, Tree, leaf, fork, forks, leaf_boxes, IsLawfulTree, IsTreeAt}
+use Rattle.slot_box.specs.Trees.{HasBox, root_box, left_part, right_part, IsNodeOf, IsSearchTree, Tree, leaf, fork, forks, leaf_boxes, IsLawfulTree, IsTreeAt, InLeaf}
 use Rattle.slot_box.proofs.PointLaws.{points_of-pos}
 use Rattle.slot_box.proofs.SplitLaws.{divided_from_lawful, IsBox-left, IsBox-right, IsPartition-parts, points_of-parts}
 
@@ -78,15 +77,6 @@ IsBox-node root node_at is sound id box (left_part {id = parent} {split} {box = 
     IsBox-left_of whole split (IsBox-node root node_at is sound parent whole has) (subst (IsNodeOf whole) node (sound parent whole has))
 IsBox-node root node_at is sound id box (right_part {id = parent} {split} {box = whole} has node) =
     IsBox-right_of whole split (IsBox-node root node_at is sound parent whole has) (subst (IsNodeOf whole) node (sound parent whole has))
-
--- a leaf of the tree whose box has the point
-pub record InLeaf (root : List Slot) (node_at : ℕ → Option Node) (point : List Entry) : Type 0 where
-  pub id : ℕ
-  pub box : List Slot
-  pub kind : LeafKind
-  pub has : HasBox root node_at id box
-  pub node : node_at id ≡ Some (Leaf kind)
-  pub there : IsPoint box point
 
 module _ (root : List Slot) (node_at : ℕ → Option Node) (is : IsBox root) (sound : IsSearchTree root node_at) where
   covered_below : (n id : ℕ) (box : List Slot) (point : List Entry) → points_of box ≤ n → HasBox root node_at id box → IsPoint box point → InLeaf root node_at point

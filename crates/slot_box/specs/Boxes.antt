@@ -1,8 +1,8 @@
 -- Boxes, as the lists of their slots, and their points.
-use Rattle.std.specs.Prelude.{◌≡◌, ℕ, ◌+◌, ◌-◌, ◌*◌, ◌^◌, ◌<◌, ◌≤◌, Option, Some, None, List, [], ◌∷◌, length, replicate, slice_index_or, All}
+use Rattle.std.specs.Prelude.{◌≡◌, ℕ, ◌+◌, ◌-◌, ◌*◌, ◌^◌, ◌<◌, ◌≤◌, Option, Some, None, List, [], ◌∷◌, length, replicate, slice_index_or, All, map}
 use Rattle.std.specs.List.{AllZip}
 use Rattle.slot_box.specs.declared.slot.Slot.{Slot}
-use Rattle.slot_box.specs.Entries.{Entry, idle, LiesIn}
+use Rattle.slot_box.specs.Entries.{Entry, idle, runs, LiesIn}
 use Rattle.slot_box.specs.Slots.{IsSlot, span, operations_of, fixed_of, ways_of}
 
 -- what every box keeps: 1 to 40 slots, each within the limits and with a live entry
@@ -39,6 +39,19 @@ HasOnePoint slots = (point : List Entry) × IsPoint slots point × ((other : Lis
 abbrev pub points_of : List Slot → ℕ
 points_of [] = 1
 points_of (s ∷ slots) = ways_of s * points_of slots
+
+-- the entry of a slot that can be filled in one way only: the operation to which it is fixed, with its
+-- least numbers, or idle
+abbrev pub only_entry : Slot → Entry
+only_entry s = running (fixed_of s) s
+  where
+    running : Option ℕ → Slot → Entry
+    running None s = idle
+    running (Some op) s = runs op s.start.lo s.end.lo s.volume.lo
+
+-- the point of a box that has no other
+abbrev pub only_point : List Slot → List Entry
+only_point slots = map only_entry slots
 
 -- the operations of the longest list of first slots that are each fixed to one
 abbrev pub fixed_prefix : List Slot → List ℕ

@@ -5,6 +5,8 @@ use Rattle.slot_box.specs.declared.node.Node.{Node}
 use Rattle.slot_box.specs.declared.node.Node.TheVariants.{Inner, Leaf}
 use Rattle.slot_box.specs.declared.slot.Slot.{Slot}
 use Rattle.slot_box.specs.declared.split.Split.{Split}
+use Rattle.slot_box.specs.Boxes.{IsPoint}
+use Rattle.slot_box.specs.Entries.{Entry}
 use Rattle.slot_box.specs.Splits.{IsLawfulSplit, left_of, right_of}
 
 -- which box a node has: node 0 the root box; the node that holds ticket T gives the left part of its box
@@ -23,6 +25,15 @@ IsNodeOf box (Some (Leaf leaf)) = Unit {0}
 -- a search tree over the root box: each node that has a box is there and divides it lawfully, or is a leaf
 abbrev pub IsSearchTree : List Slot → (ℕ → Option Node) → Type 0
 IsSearchTree root node_at = (id : ℕ) (box : List Slot) → HasBox root node_at id box → IsNodeOf box (node_at id)
+
+-- some leaf has a box with the point
+pub record InLeaf (root : List Slot) (node_at : ℕ → Option Node) (point : List Entry) : Type 0 where
+  pub id : ℕ
+  pub box : List Slot
+  pub kind : LeafKind
+  pub has : HasBox root node_at id box
+  pub node : node_at id ≡ Some (Leaf kind)
+  pub there : IsPoint box point
 
 -- the shape of a tree: its splits
 pub data Tree : Type 0 where

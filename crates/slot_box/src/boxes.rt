@@ -1,7 +1,8 @@
-ghost use Rattle.std.specs.Prelude.{◌≡◌, ℕ, ◌+◌, ◌-◌, ◌^◌, ◌<◌, ◌≤◌, ◌↔◌, min, length, slice_set, All, IsTrue, IsBitSet, IfOk, OnOk};
+ghost use Rattle.std.specs.Prelude.{◌≡◌, ℕ, ◌+◌, ◌-◌, ◌^◌, ◌<◌, ◌≤◌, ◌↔◌, min, length, slice_set, All, IsTrue, IsBitSet, IfSome, IfOk, OnOk, List};
 ghost use Rattle.slot_box.specs.Boxes.{points_of};
 ghost use Rattle.slot_box.specs.Slots.{IsSlot, ways_of};
 
+use crate::division::divide_first;
 use crate::split::{divides, left_half, right_half};
 use crate::{IDLE, Slot, Span, Split, SplitFault};
 use std::alloc::{AllocError, Global};
@@ -26,7 +27,8 @@ impl Model for SlotBox {
 }
 
 impl SlotBox {
-    ghost use Rattle.slot_box.specs.Boxes.{IsBox, IsPoint, HasPoint, HasOnePoint, IsWithinRoot, StaysWithinRoot, root_of, slot_at};
+    ghost use Rattle.slot_box.specs.Boxes.{IsBox, IsPoint, HasPoint, HasOnePoint, IsWithinRoot, StaysWithinRoot, root_of, slot_at, entry_at, only_point};
+    ghost use Rattle.slot_box.specs.Entries.{Entry, bit_of};
     ghost use Rattle.slot_box.specs.Counting.{IsCountOf};
     ghost use Rattle.slot_box.specs.Slots.{IsLive, IsFixedTo, live_of, fixed_of};
     ghost use Rattle.slot_box.specs.Splits.{IsLawfulSplit, IsPartition, left_of, right_of, is_lawful};
@@ -94,6 +96,7 @@ impl SlotBox {
         requires there { i ≤ length self.now }
         ensures value { result ≡ fixed_of (slot_at self.now i) }
         ensures some { (op : ℕ) → (result ≡ Some op) ↔ IsFixedTo (slot_at self.now i) op }
+        ensures runs { IfSome result (λ op. (point : List Entry) → IsPoint self.now point → bit_of (entry_at point i) ≡ op) }
     {
         self.slot(i).fixed()
     }
@@ -102,7 +105,9 @@ impl SlotBox {
     pub fn is_point(&self) -> bool
         ensures one { IsTrue result ↔ HasOnePoint self.now }
         ensures number { IsTrue result ↔ (points_of self.now ≡ 1) }
+        ensures point { IsTrue result → IsPoint self.now (only_point self.now) }
     {
+        let _ = &self.slots;
         self.points() == 1
     }
 
@@ -113,6 +118,20 @@ impl SlotBox {
         ensures number { IsCountOf (IsPoint self.now) (points_of self.now) }
     {
         points_in(&self.slots)
+    }
+
+    /// A lawful split of a box with more than one point, at the first slot that can be filled in more than
+    /// one way.
+    pub fn division(&self) -> Option<Split>
+        ensures lawful { IfSome result (IsLawfulSplit self.now) }
+        ensures none { (result ≡ None) ↔ HasOnePoint self.now }
+        ensures several { IfSome result (λ _. 2 ≤ points_of self.now) }
+    {
+        if self.is_point() {
+            None
+        } else {
+            divide_first(&self.slots)
+        }
     }
 
     /// The two parts of the box. A split that is not lawful is refused as such, whatever memory there is.
@@ -238,6 +257,7 @@ mod tests {
         let root = SlotBox::root(rt.alloc(), 1, 1, 4, 2)?;
         assert_eq!(rt; root.points(), 46);
         assert!(rt; !root.is_point());
+        assert_eq!(rt; root.division(), Some(at(1, SplitKind::Ops(1))));
         let bad = root.split(rt.alloc(), at(1, SplitKind::Volume(0)));
         assert_eq!(rt; bad.err(), Some(SplitFault::BadSplit));
         let bad = root.split(rt.alloc(), at(2, SplitKind::Volume(1)));
@@ -249,6 +269,7 @@ mod tests {
         assert_eq!(rt; left.fixed_at(1), Some(0));
         assert_eq!(rt; right.points(), 1);
         assert!(rt; right.is_point());
+        assert_eq!(rt; right.division(), None);
         assert_eq!(rt; right.len(), 1);
         assert_eq!(rt; right.live(1), IDLE);
         assert_eq!(rt; right.fixed_at(1), None);

@@ -7,6 +7,7 @@
 //! To the crates above this crate promises that a box always has a point, that `points` is how many it
 //! has, and that a split, where it is lawful, gives each point of the box to exactly one of two boxes,
 //! neither of them empty. So the leaves of a search tree have all points of its root between them.
+//! [`box_laws`], [`split_laws`] and [`tree_laws`] say so of the definitions alone.
 //!
 //! Begin with `boxes`, after `specs/Slots`, `specs/Entries` and `specs/Boxes`; `split` and
 //! `specs/Splits` have the two parts. `node` and `specs/Trees` have the search tree and which box each of
@@ -17,6 +18,8 @@
 mod boxes;
 mod crossing;
 mod cut;
+mod division;
+mod laws;
 mod node;
 mod slot;
 mod split;
@@ -25,6 +28,7 @@ mod term;
 
 pub use boxes::SlotBox;
 pub use cut::{CutList, CutParams, NamedCut, NamedCuts};
+pub use laws::{box_laws, split_laws, tree_laws};
 pub use node::{Leaf, Node, NodeList};
 pub use slot::{IDLE, Slot, Span};
 pub use split::{Split, SplitFault, SplitKind};

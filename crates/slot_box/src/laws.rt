@@ -1,0 +1,22 @@
+ghost use Rattle.slot_box.specs.Laws.{EntriesAreLive, OnlyPointsArePoints, RootsAreBoxes, RootSlotsMayIdle, RootSlotsMayRun, PartsSharePoints, PartsAreBoxes, PartsShareCounts, LeavesCoverRoots};
+
+/// The laws of boxes and root boxes, for whoever reasons about them: a call does nothing and brings them.
+pub fn box_laws()
+    ensures live { EntriesAreLive }
+    ensures only { OnlyPointsArePoints }
+    ensures roots { RootsAreBoxes }
+    ensures idle { RootSlotsMayIdle }
+    ensures runs { RootSlotsMayRun }
+{}
+
+/// The laws of lawful splits: a call does nothing and brings them.
+pub fn split_laws()
+    ensures points { PartsSharePoints }
+    ensures boxes { PartsAreBoxes }
+    ensures counts { PartsShareCounts }
+{}
+
+/// The law of search trees: a call does nothing and brings it.
+pub fn tree_laws()
+    ensures { LeavesCoverRoots }
+{}
