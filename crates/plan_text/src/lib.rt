@@ -4,3 +4,6 @@
 mod op_line;
 
 pub use op_line::{OpLine, OpLines, push_op_line, read_op_line};
+
+#[cfg(test)]
+mod tests;
