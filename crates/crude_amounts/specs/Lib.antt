@@ -1,0 +1,4 @@
+pub mod Cells
+pub mod Draw
+pub mod Amounts
+pub mod Blend
