@@ -1,0 +1,10 @@
+pub mod StepLaws
+pub mod RuleLaws
+pub mod PlaceLists
+pub mod StateLaws
+pub mod MarginLaws
+pub mod TallyLaws
+pub mod OrderLaws
+pub mod ReplayLaws
+pub mod EndLaws
+pub mod PlanLaws

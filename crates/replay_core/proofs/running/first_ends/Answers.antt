@@ -1,0 +1,12 @@
+use Rattle.std.proofs.Common.{◌≡◌, ℕ, [], replicate, sym, ap, subst, ◌∙◌}
+use Rattle.std.proofs.lemmas.Result.{IfOk-weaker}
+use Rattle.replay_core.specs.Ends.{AreEnds}
+use Rattle.replay_core.proofs.TallyLaws.{AreEnds-first}
+use Rattle.replay_core.proofs.running.first_ends.Goals as goal
+
+pub returns : goal.returns
+returns c =
+    let parts = c.args.plant.now in
+    IfOk-weaker c.vec.result _ _
+    (λ ends made. subst (AreEnds parts []) (sym (made (λ y same. same) ∙ ap (λ (n : ℕ). replicate n 0) c.op_count.ensures.value)) (AreEnds-first parts))
+    c.vec.ensures.items_if_clones_equal

@@ -1,0 +1,26 @@
+-- What operations have charged so far: counts, minutes and volumes of units and charging tanks.
+use Rattle.std.specs.Prelude.{ℕ, ◌-◌, Bool, ◌&&◌, ◌==◌, if◌then◌else◌, List, count_by, sum_by}
+use Rattle.plant_model.specs.declared.parts.Parts.{Parts}
+use Rattle.plant_model.specs.Parts.{op_of}
+use Rattle.plant_model.specs.Relations.{is_charge}
+use Rattle.replay_core.specs.declared.timed.Timed.{Timed}
+
+-- the operation charges unit p
+abbrev pub charges_unit : Parts → ℕ → Timed → Bool
+charges_unit parts p t = is_charge (op_of parts t.op).kind && (op_of parts t.op).to == p
+
+-- the operation charges from tank p
+abbrev pub charges_from : Parts → ℕ → Timed → Bool
+charges_from parts p t = is_charge (op_of parts t.op).kind && (op_of parts t.op).from == p
+
+-- how many charges unit p has got
+unfoldable pub charges_of : Parts → List Timed → ℕ → ℕ
+charges_of parts steps p = count_by (charges_unit parts p) steps
+
+-- how many minutes unit p was charged in all
+unfoldable pub minutes_of : Parts → List Timed → ℕ → ℕ
+minutes_of parts steps p = sum_by (λ (t : Timed). if charges_unit parts p t then t.end - t.start else 0) steps
+
+-- the volume charged from tank p
+unfoldable pub charged_of : Parts → List Timed → ℕ → ℕ
+charged_of parts steps p = sum_by (λ (t : Timed). if charges_from parts p t then t.volume else 0) steps

@@ -1,0 +1,9 @@
+-- What a replay is seen as.
+use Rattle.std.specs.Prelude.{List}
+use Rattle.plant_model.specs.declared.parts.Parts.{Parts}
+use Rattle.replay_core.specs.declared.timed.Timed.{Timed}
+
+-- a plant, and the operations that have run in it, which broke no rule
+pub record Replayed : Type 0 where
+  pub parts : Parts
+  pub steps : List Timed

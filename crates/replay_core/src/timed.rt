@@ -1,0 +1,20 @@
+use crude_amounts::Amounts;
+use item_lists::{Copies, Items};
+
+/// An operation at its time: minutes from the start of the horizon, and volume units.
+#[derive(Clone, Copy, Debug, PartialEq, Eq)]
+pub struct Timed {
+    pub op: u8,
+    pub start: u32,
+    pub end: u32,
+    pub volume: u32,
+}
+
+/// Operations in the order of a plan.
+pub type Plan = Items<Timed>;
+
+/// The operations of a word, which is made whole.
+pub type Word = Copies<Timed>;
+
+/// Amounts of each place, in the order of places.
+pub type AmountList = Items<Amounts>;
