@@ -1,1 +1,3 @@
 pub mod PlainValue
+pub mod Forms
+pub mod LeafValue

@@ -1,10 +1,16 @@
-ghost use Rattle.std.specs.Prelude.{◌≡◌, ◌+◌, ◌*◌, ◌^◌, ◌<◌, ◌≤◌, ◌&&◌, ◌==◌, pos};
+ghost use Rattle.std.specs.Prelude.{◌≡◌, ◌+◌, ◌*◌, ◌^◌, ◌<◌, ◌≤◌, ◌≤ℤ◌, ◌&&◌, ◌==◌, pos, List};
 ghost use Rattle.std.specs.Int.{bit_at};
 ghost use Rattle.plant_model.specs.Parts.{op_count_of, op_of};
 ghost use Rattle.plant_model.specs.Relations.{is_charge};
+ghost use Rattle.replay_core.specs.Legal.{IsLegal};
+ghost use Rattle.replay_core.specs.Margin.{margin_of, greatest_gain_of};
+ghost use Rattle.slot_box.specs.Boxes.{IsPoint};
+ghost use Rattle.slot_box.specs.Entries.{Entry};
 ghost use Rattle.slot_box.specs.Slots.{live_of};
-ghost use Rattle.leaf_value.specs.PlainValue.{most_gain, slot_value, plain_value_of};
+ghost use Rattle.leaf_value.specs.Forms.{word_of};
+ghost use Rattle.leaf_value.specs.PlainValue.{slot_value, plain_value_of};
 
+use crate::laws::form_laws;
 use number_laws::positive_part;
 use plant_model::{OpKind, Plant};
 use slot_box::{Slot, SlotBox};
@@ -13,7 +19,9 @@ use slot_box::{Slot, SlotBox};
 pub fn plain_value(plant: &Plant, bx: &SlotBox) -> i128
     ensures value { result ≡ pos (plain_value_of plant.now bx.now) }
     ensures fits { plain_value_of plant.now bx.now < 2 ^ 63 }
+    ensures bounds { (point : List Entry) → IsPoint bx.now point → IsLegal plant.now (word_of point) → margin_of plant.now (word_of point) ≤ℤ result }
 {
+    form_laws(plant);
     let mut value: u64 = 0;
     for i in 0..bx.len() {
         value += slot_value(plant, bx.slot(i + 1), bx.live(i + 1));
@@ -28,7 +36,7 @@ fn slot_value(plant: &Plant, slot: Slot, live: u64) -> u64
     ensures value { result ≡ slot_value plant.now slot }
     ensures most { result ≤ 48 * 120000000000000 }
 {
-    let gain = most_gain(plant, slot.volume.hi);
+    let gain = greatest_gain(plant, slot.volume.hi);
     let mut value: u64 = 0;
     for v in 0..plant.op_count() {
         if earns(plant, live, v) {
@@ -47,9 +55,9 @@ fn earns(plant: &Plant, live: u64, v: u8) -> bool
     plant.op(v).kind == OpKind::Charge && (live >> v) & 1 == 1
 }
 
-fn most_gain(plant: &Plant, volume: u32) -> u64
+fn greatest_gain(plant: &Plant, volume: u32) -> u64
     requires { volume ≤ 10000000 }
-    ensures value { result ≡ most_gain plant.now volume }
+    ensures value { result ≡ greatest_gain_of plant.now volume }
     ensures most { result ≤ 120000000000000 }
 {
     let mut gain: u64 = 0;

@@ -2,7 +2,7 @@ use Rattle.std.proofs.Common.{◌≡◌, ◌*◌, ◌≤◌}
 use Rattle.number_laws.specs.Positive.{positive_part}
 use Rattle.number_laws.specs.Sums.{sum_below}
 use Rattle.plant_model.specs.Parts.{margin_of}
-use Rattle.leaf_value.proofs.plain.most_gain.Given as goal
+use Rattle.leaf_value.proofs.plain.greatest_gain.Given as goal
 
 abbrev pub invariant-loop-c : goal.invariant-loop-c
 invariant-loop-c l = record {
