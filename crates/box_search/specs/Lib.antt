@@ -1,0 +1,4 @@
+pub mod Values
+pub mod Growing
+pub mod Searching
+pub mod Searched

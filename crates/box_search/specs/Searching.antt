@@ -1,0 +1,81 @@
+-- A search in the middle of its work.
+use Rattle.std.specs.Prelude.{◌≡◌, ◌⊎◌, ℕ, ◌≤◌, ℤ, List, [], ◌∷◌, Option, Some, IfSome, option_map}
+use Rattle.std.specs.List.{AllByRecursion}
+use Rattle.plant_model.specs.declared.parts.Parts.{Parts}
+use Rattle.slot_box.specs.declared.node.Leaf.{Leaf as LeafKind}
+use Rattle.slot_box.specs.declared.node.Leaf.TheVariants.{Dead, Void, Dual, Undone, Point}
+use Rattle.slot_box.specs.declared.node.Node.{Node}
+use Rattle.slot_box.specs.declared.slot.Slot.{Slot}
+use Rattle.slot_box.specs.Boxes.{points_of}
+use Rattle.replay_core.specs.Claim.{IsPlanOf}
+use Rattle.leaf_value.specs.declared.point.Planned.{Planned}
+use Rattle.leaf_value.specs.LeafValue.{IsLawfulLeaf, leaf_value_of}
+use Rattle.leaf_value.specs.PlainValue.{root_box_of}
+use Rattle.dossier_text.specs.Ranges.{IsNode}
+use Rattle.dossier_check.specs.Nodes.{IsLeaf}
+use Rattle.box_search.specs.declared.search.Pending.{Pending}
+use Rattle.box_search.specs.declared.search.Search.{Search}
+use Rattle.box_search.specs.Growing.{IsGrown, IsBoxAt, open_leaf}
+use Rattle.box_search.specs.Values.{IsAtMost}
+
+-- how a leaf was left: open only where the budget was spent and its box has at least two points, else only
+-- where its value does not beat the best margin
+abbrev pub IsClosed : Parts → (t budget : ℕ) → Option ℤ → List Slot → LeafKind → Type 0
+IsClosed parts t budget best box (Dead at) = ⊥
+IsClosed parts t budget best box (Void terms) = ⊥
+IsClosed parts t budget best box (Undone q terms) = (t ≡ budget) × (2 ≤ points_of box)
+IsClosed parts t budget best box (Dual q terms) = IsAtMost (leaf_value_of parts box (Dual q terms)) best
+IsClosed parts t budget best box Point = IsAtMost (leaf_value_of parts box Point) best
+
+-- a leaf is settled: it is lawful, its value keeps the bound, and it is left as it should
+pub record IsSettled (parts : Parts) (t budget : ℕ) (best bound : Option ℤ) (box : List Slot) (leaf : LeafKind) : Type 0 where
+  pub lawful : IsLawfulLeaf box leaf
+  pub bounded : IsAtMost (leaf_value_of parts box leaf) bound
+  pub closed : IsClosed parts t budget best box leaf
+
+-- a box that waits to be examined is that of an open leaf
+pub record IsPending (tree : List Node) (boxes : List (List Slot)) (pending : Pending) : Type 0 where
+  pub node : IsLeaf tree pending.id open_leaf
+  pub box : IsBoxAt boxes pending.id pending.bx
+
+-- the box of this id waits
+abbrev pub IsWaiting : List Pending → ℕ → Type 0
+IsWaiting [] id = ⊥
+IsWaiting (p ∷ pending) id = (p.id ≡ id) ⊎ IsWaiting pending id
+
+-- no two boxes that wait have the same id
+abbrev pub AreApart : List Pending → Type 0
+AreApart [] = Unit {0}
+AreApart (p ∷ pending) = (IsWaiting pending p.id → ⊥) × AreApart pending
+
+-- a leaf that waits no longer has this value
+pub record IsFoundValue (parts : Parts) (tree : List Node) (boxes : List (List Slot)) (pending : List Pending) (value : ℤ) : Type 0 where
+  pub id : ℕ
+  pub box : List Slot
+  pub leaf : LeafKind
+  pub node : IsLeaf tree id leaf
+  pub box_at : IsBoxAt boxes id box
+  pub valued : leaf_value_of parts box leaf ≡ Some value
+  pub examined : IsWaiting pending id → ⊥
+
+-- a tree with t tickets of a budget, whose boxes wait or are settled; best is the greatest margin of a plan that
+-- was found, bound the greatest value of a leaf
+pub record IsUnderway (parts : Parts) (n budget t : ℕ) (tree : List Node) (boxes : List (List Slot)) (pending : List Pending) (best bound : Option ℤ) : Type 0 where
+  pub grown : IsGrown (root_box_of parts n) t tree boxes
+  pub within : t ≤ budget
+  pub waiting : AllByRecursion (IsPending tree boxes) pending
+  pub apart : AreApart pending
+  pub leaves : (id : ℕ) (leaf : LeafKind) (box : List Slot) → IsLeaf tree id leaf → IsBoxAt boxes id box → IsWaiting pending id ⊎ IsSettled parts t budget best bound box leaf
+  pub best_found : IfSome best (IsFoundValue parts tree boxes pending)
+  pub bound_found : IfSome bound (IsFoundValue parts tree boxes pending)
+
+-- the margin of the best plan so far
+abbrev pub best_margin : Option Planned → Option ℤ
+best_margin best = option_map (λ (planned : Planned). planned.margin) best
+
+-- what was found so far
+pub record IsSearch (parts : Parts) (n budget : ℕ) (search : Search) : Type 0 where
+  pub boxes : List (List Slot)
+  pub underway : IsUnderway parts n budget search.tickets search.tree boxes search.pending (best_margin search.best) search.bound
+  pub plan : IfSome search.best (λ planned. IsPlanOf parts n planned.margin planned.steps)
+  pub numbers : AllByRecursion IsNode search.tree
