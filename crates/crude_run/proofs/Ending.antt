@@ -1,5 +1,5 @@
 -- How a run ends that owed an answer.
-use Rattle.std.proofs.Common.{◌≡◌, ◌<◌, List, Result, Ok, Err, refl, ap, sym, subst, inl, inr, arith}
+use Rattle.std.proofs.Common.{◌<◌, List, Result, Ok, Err, arith}
 use Rattle.std.specs.Prelude.{IfOk, ℕ}
 use Rattle.plant_model.specs.declared.parts.Parts.{Parts}
 use Rattle.plant_text.specs.declared.fault.PlantTextFault.{PlantTextFault}
@@ -8,15 +8,21 @@ use Rattle.plant_text.specs.PlantText.{plant_of}
 use Rattle.crude_run.specs.declared.answer.Answer.{Answer}
 use Rattle.crude_run.specs.declared.words.Ask.{Ask}
 use Rattle.crude_run.specs.Files.{Files, FileRead, bytes, failed, longer, MayGive}
-use Rattle.crude_run.specs.Words.{IsAskInRange, IsPlainLine}
 use Rattle.crude_run.specs.declared.words.Command.TheVariants.{Solve}
 use Rattle.crude_run.specs.declared.files.TheConstants.{PLANT_LIMIT}
 use Rattle.std.specs.declared.alloc.AllocError.{AllocError}
-use Rattle.crude_run.specs.Solving.{Solves}
-use Rattle.crude_run.specs.Answered.{SolvesText, SolvesRead, Serves, CallsFor, Outlet, Answered}
+use Rattle.dossier_text.specs.declared.dossier.Word3.{Word3}
+use Rattle.dossier_text.specs.declared.dossier.Word3.TheVariants.{Plan, Infeasible, Open3}
+use Rattle.crude_run.specs.Solving.{status_of}
+use Rattle.crude_run.specs.Answered.{SolvesText, SolvesRead, Serves}
+
+status_below : (answer : Word3) → status_of answer < 71
+status_below Plan = omega arith
+status_below Infeasible = omega arith
+status_below Open3 = omega arith
 
 text_below : (ask : Ask) (read : Result Parts PlantTextFault) (answer : Answer) → SolvesText ask read answer → answer.status < 71
-text_below ask (Ok parts) answer owed = elim owed.ended [ inl is ↦ rw is (omega arith) | inr (inl is) ↦ rw is (omega arith) | inr (inr is) ↦ rw is (omega arith) ]
+text_below ask (Ok parts) answer owed = rw owed.status (status_below owed.dossier.answer)
 text_below ask (Err fault.Json) answer owed = rw owed (omega arith)
 text_below ask (Err (fault.Shape place)) answer owed = rw owed (omega arith)
 text_below ask (Err (fault.Plant found)) answer owed = rw owed (omega arith)

@@ -1,2 +1,4 @@
 pub mod WordLaws
 pub mod Ending
+pub mod SolutionLaws
+pub mod CompleteLaws

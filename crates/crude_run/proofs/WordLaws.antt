@@ -1,11 +1,10 @@
 -- How the words of a line stand to the line that they are.
-use Rattle.std.proofs.Common.{◌≡◌, ℕ, ◌<◌, Bool, true, false, List, [], ◌∷◌, length, get_or, map, string_bytes, Option, Some, None, String, refl, sym, ap, ◌∙◌, subst, arith}
-use Rattle.std.specs.Prelude.{◌&&◌, codes, decimal, IfSome, IfNone}
+use Rattle.std.proofs.Common.{◌≡◌, ℕ, Bool, true, false, List, [], ◌∷◌, length, get_or, Option, Some, None, String, refl, arith}
+use Rattle.std.specs.Prelude.{◌&&◌, codes, IfSome, IfNone}
 use Rattle.std.specs.Str.{bytes_eq}
 use Rattle.std.specs.declared.alloc.Global.{Global}
 use Rattle.std.proofs.lemmas.Slice.Eq.{bytes_eq-Decides}
 use Rattle.crude_run.specs.declared.words.Ask.{Ask}
-use Rattle.crude_run.specs.declared.words.Command.{Command}
 use Rattle.crude_run.specs.declared.words.Command.TheVariants.{Solve}
 use Rattle.crude_run.specs.Words.{is_file_word, AreRefused}
 use Rattle.crude_run.specs.WordReading.{is_solve, IsAskOf, IsSolveLine}

@@ -19,7 +19,7 @@ use Rattle.crude_run.specs.Solving.{Solves}
 
 -- the answer of `solve` to what its plant text is
 abbrev pub SolvesText : Ask → Result Parts PlantTextFault → Answer → Type 0
-SolvesText ask (Ok parts) answer = Solves parts ask.slots answer
+SolvesText ask (Ok parts) answer = Solves parts ask.slots ask.nodes answer
 SolvesText ask (Err fault.Json) answer = answer ≡ plant_refused
 SolvesText ask (Err (fault.Shape place)) answer = answer ≡ plant_refused
 SolvesText ask (Err (fault.Plant found)) answer = answer ≡ plant_refused

@@ -4,3 +4,5 @@ pub mod Texts
 pub mod Solving
 pub mod Files
 pub mod Answered
+pub mod Concluding
+pub mod Completeness

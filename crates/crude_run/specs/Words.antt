@@ -13,11 +13,11 @@ line_words (Solve plant ask) =
 abbrev pub is_file_word : List ℕ → Bool
 is_file_word word = nat_le 1 (length word) && nat_le (length word) 255 && not (slice_index word 0 == 45)
 
--- 1 to 40 slots; so far no node and one worker
+-- 1 to 40 slots, at most 65,535 inner nodes, and so far one worker
 pub record IsAskInRange (ask : Ask) : Type 0 where
   pub some_slots : 1 ≤ ask.slots
   pub most_slots : ask.slots ≤ 40
-  pub nodes : ask.nodes ≡ 0
+  pub most_nodes : ask.nodes ≤ 65535
   pub workers : ask.workers ≡ 1
 
 -- what a command names is in range

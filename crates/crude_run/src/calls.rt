@@ -1,12 +1,14 @@
 ghost use Rattle.std.specs.Prelude.{map, string_bytes};
 ghost use Rattle.crude_run.specs.Files.{files_between};
 ghost use Rattle.crude_run.specs.Answered.{CallsFor, Answered, outlet_between};
+ghost use Rattle.crude_run.specs.Completeness.{IsComplete};
 
 use crate::answer::words_refused;
 use crate::send::finish;
 use crate::solve::solve_file_alone;
 use crate::status::{NO_MEMORY, Status};
 use crate::words::{Command, WordFault, read_words};
+use line_text::decimal_laws;
 use outer_edge::{Gate, Shelf, Sink};
 use std::alloc::Global;
 
@@ -14,6 +16,23 @@ use std::alloc::Global;
 ///
 /// The words are those after the program's name. The whole text is made before the first write.
 pub fn run<H: Shelf, K: Sink, G: Gate>(
+    alloc: Global,
+    words: &[String],
+    shelf: &mut H,
+    out: &mut K,
+    gate: &G,
+) -> Status
+    ensures answered { Answered (CallsFor (map string_bytes words.now) (files_between H.told H.faults H.longs shelf.old shelf.new))
+        (outlet_between K.taken K.faults out.old out.new) result }
+    ensures complete { IsComplete (map string_bytes words.now) (files_between H.told H.faults H.longs shelf.old shelf.new)
+        (outlet_between K.taken K.faults out.old out.new) result }
+{
+    decimal_laws();
+    serve(alloc, words, shelf, out, gate)
+}
+
+/// Does what the words ask for.
+fn serve<H: Shelf, K: Sink, G: Gate>(
     alloc: Global,
     words: &[String],
     shelf: &mut H,

@@ -3,12 +3,14 @@
 //! [`run`] reads the words, reads the files that they name from a shelf, does the work and writes its
 //! text into a sink. Its contract is the whole promise of the program. Begin with `specs/Answered.antt`:
 //! `Answered` says how a run ends, `CallsFor` what the words call for, and `Serves` what a command
-//! answers by its files; from there `specs/Solving.antt` leads down to the plant, the boxes and their
-//! values.
+//! answers by its files. What `solve` owes of a plant is in `specs/Solving.antt`: an accepted dossier,
+//! what it claims, and what it owes to the budget of inner nodes. From there the way leads down to plans,
+//! boxes and their values. The search itself is `box_search`; here its finding becomes a dossier.
 #![tactic(auto)]
 
 mod answer;
 mod calls;
+mod conclude;
 mod files;
 mod send;
 mod solve;

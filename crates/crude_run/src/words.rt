@@ -145,7 +145,7 @@ fn read_ask(slots: &str, nodes: &str, workers: &str) -> Option<Ask>
 {
     let ask = Ask {
         slots: read_number(slots, 1, 40)?,
-        nodes: read_number(nodes, 0, 0)?,
+        nodes: read_number(nodes, 0, 65_535)?,
         workers: read_number(workers, 1, 1)?,
     };
     Some(ask)

@@ -1,4 +1,4 @@
-use Rattle.std.proofs.Common.{◌≡◌, ◌∷◌, [], length, arith, true, sym, ◌∙◌, string_bytes}
+use Rattle.std.proofs.Common.{◌≡◌, length, arith, true, sym, ◌∙◌, string_bytes}
 use Rattle.crude_run.specs.WordReading.{is_solve}
 use Rattle.crude_run.proofs.WordLaws.{eight_words, line_found, line_none}
 use Rattle.crude_run.proofs.words.read_line.Goals as goal

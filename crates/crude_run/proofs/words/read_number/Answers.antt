@@ -1,4 +1,4 @@
-use Rattle.std.proofs.Common.{sym, ◌∙◌, ◌<◌, ◌^◌, arith, decimal}
+use Rattle.std.proofs.Common.{sym, ◌∙◌, arith}
 use Rattle.crude_run.proofs.words.read_number.Goals as goal
 
 pub returns-then-number-least-clause-none : goal.returns-then-number-least-clause-none

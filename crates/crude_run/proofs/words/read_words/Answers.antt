@@ -1,4 +1,3 @@
-use Rattle.crude_run.specs.declared.words.Command.TheVariants.{Solve}
 use Rattle.crude_run.proofs.WordLaws.{no_line}
 use Rattle.crude_run.proofs.words.read_words.Goals as goal
 

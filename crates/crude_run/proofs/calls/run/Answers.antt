@@ -1,0 +1,6 @@
+use Rattle.crude_run.proofs.CompleteLaws.{IsComplete-from}
+use Rattle.crude_run.proofs.calls.run.Goals as goal
+
+pub returns-clause-complete : goal.returns-clause-complete
+returns-clause-complete g c =
+    IsComplete-from c.decimal_laws.ensures.decimals _ _ _ _ c.serve.ensures

@@ -1,0 +1,43 @@
+//! Lines of words that are refused, whatever the files are.
+
+use super::runs::{SOUND, outcome};
+use super::samples::one_charge;
+use std::alloc::{AllocError, Global};
+use std::test::Fail;
+
+fn is_refused(alloc: Global, line: &str) -> Result<bool, AllocError> {
+    let ended = outcome(alloc, line, one_charge().as_bytes(), SOUND)?;
+    Ok(ended.is(64, "refused words\n"))
+}
+
+#[test]
+fn refuses_words(rt: HostRuntime) -> Result<(), Fail> {
+    for line in [
+        "",
+        "--help",
+        "solve",
+        "solve -plant --slots 1 --nodes 0 --workers 1",
+        "solve plant --slots 0 --nodes 0 --workers 1",
+        "solve plant --slots 41 --nodes 0 --workers 1",
+        "solve plant --slots 01 --nodes 0 --workers 1",
+        "solve plant --slots 1 --nodes 65536 --workers 1",
+        "solve plant --slots 1 --nodes 0 --workers 0",
+        "solve plant --slots 1 --nodes 0 --workers 1 more",
+    ] {
+        assert!(rt; is_refused(rt.alloc(), line)?, "{line}");
+    }
+    Ok(())
+}
+
+// Until a run may have several workers, and options any order.
+#[test]
+fn refuses_words_so_far(rt: HostRuntime) -> Result<(), Fail> {
+    for line in [
+        "solve plant --slots 1 --nodes 0 --workers 2",
+        "solve plant --slots 1 --nodes 0 --workers 16",
+        "solve plant --nodes 0 --slots 1 --workers 1",
+    ] {
+        assert!(rt; is_refused(rt.alloc(), line)?, "{line}");
+    }
+    Ok(())
+}

@@ -1,0 +1,38 @@
+//! What `solve` finds of the sample plants, with one slot.
+
+use super::runs::{Ended, SOUND, outcome};
+use super::samples::{fixed_rate, losing_charge, one_charge};
+use std::alloc::{AllocError, Global};
+use std::test::Fail;
+
+const FULL: &str = "solve plant --slots 1 --nodes 45 --workers 1";
+
+const EIGHT: &str = "solve plant --slots 1 --nodes 8 --workers 1";
+
+fn solved(alloc: Global, line: &str, plant: &str) -> Result<Ended, AllocError> {
+    outcome(alloc, line, plant.as_bytes(), SOUND)
+}
+
+#[test]
+fn charges_all_that_there_is(rt: HostRuntime) -> Result<(), Fail> {
+    let ended = solved(rt.alloc(), FULL, one_charge())?;
+    let lines = "\nanswer plan\nmargin 12\nbound 12\nplan 1\nop 1 c1 0 2 4\ncuts 0\n";
+    assert!(rt; ended.claims(0, lines), "{ended:?}");
+    Ok(())
+}
+
+#[test]
+fn charges_nothing_at_a_loss(rt: HostRuntime) -> Result<(), Fail> {
+    let ended = solved(rt.alloc(), EIGHT, losing_charge())?;
+    let lines = "\nanswer plan\nmargin 0\nbound 0\nplan 0\ncuts 0\n";
+    assert!(rt; ended.claims(0, lines), "{ended:?}");
+    Ok(())
+}
+
+#[test]
+fn finds_that_there_is_no_plan(rt: HostRuntime) -> Result<(), Fail> {
+    let ended = solved(rt.alloc(), FULL, fixed_rate())?;
+    let lines = "\nanswer infeasible\nmargin none\nbound none\nplan none\ncuts 0\n";
+    assert!(rt; ended.claims(3, lines), "{ended:?}");
+    Ok(())
+}

@@ -1,0 +1,62 @@
+//! The sample plants, by their plain names, and the dossiers of runs on them.
+//!
+//! Each text stands behind a function that promises nothing of it, so that the proofs of the tests,
+//! which do not depend on it, do not read it.
+
+use std::alloc::Global;
+use std::test::Fail;
+
+// One charging tank and one unit.
+const ONE_CHARGE: &str =
+    r#"{"format":1,"horizon":2,"properties":[],"crudes":[{"name":"A","margin":3,"properties":[]}],"vessels":[],"storage":[],"charging":[{"name":"C1","min":0,"max":10,"amounts":[4],"demand":[0,10000000]}],"units":[{"name":"U","continuous":false,"charges":[0,40]}],"operations":[{"name":"c1","from":"C1","to":"U","rate":[0,2880],"volume":[1,4],"window":[0,2],"limits":[]}]}"#;
+
+// As `one_charge`, but the rate is fixed, so that two minutes would need more than there is, and the unit is to be
+// charged at every minute.
+const FIXED_RATE: &str =
+    r#"{"format":1,"horizon":2,"properties":[],"crudes":[{"name":"A","margin":3,"properties":[]}],"vessels":[],"storage":[],"charging":[{"name":"C1","min":0,"max":10,"amounts":[4],"demand":[0,10000000]}],"units":[{"name":"U","continuous":true,"charges":[0,40]}],"operations":[{"name":"c1","from":"C1","to":"U","rate":[4320,4320],"volume":[1,4],"window":[0,2],"limits":[]}]}"#;
+
+// As `one_charge`, but the one unit that can be charged loses.
+const LOSING_CHARGE: &str =
+    r#"{"format":1,"horizon":1,"properties":[],"crudes":[{"name":"A","margin":-1,"properties":[]}],"vessels":[],"storage":[],"charging":[{"name":"C1","min":0,"max":10,"amounts":[1],"demand":[0,10000000]}],"units":[{"name":"U","continuous":false,"charges":[0,40]}],"operations":[{"name":"c1","from":"C1","to":"U","rate":[0,2880],"volume":[1,1],"window":[0,1],"limits":[]}]}"#;
+
+// Two storage tanks that feed one charging tank.
+const TWO_INLETS: &str =
+    r#"{"format":1,"horizon":4,"properties":[],"crudes":[{"name":"A","margin":1,"properties":[]}],"vessels":[],"storage":[{"name":"S1","min":0,"max":10,"amounts":[5]},{"name":"S2","min":0,"max":10,"amounts":[5]}],"charging":[{"name":"C1","min":0,"max":10,"amounts":[2],"demand":[0,10000000]}],"units":[{"name":"U","continuous":false,"charges":[0,40]}],"operations":[{"name":"T1","from":"S1","to":"C1","rate":[0,14400],"volume":[1,10],"window":[0,4],"limits":[]},{"name":"T2","from":"S2","to":"C1","rate":[0,14400],"volume":[1,10],"window":[0,4],"limits":[]},{"name":"G","from":"C1","to":"U","rate":[0,14400],"volume":[1,10],"window":[0,4],"limits":[]}]}"#;
+
+// Two vessels, two storage tanks, two charging tanks and one unit, with sulphur.
+const TWO_VESSELS: &str =
+    r#"{"format":1,"horizon":11520,"properties":["sulphur"],"crudes":[{"name":"A","margin":9,"properties":[100]},{"name":"B","margin":6,"properties":[600]}],"vessels":[{"name":"V1","arrival":0,"amounts":[1000000,0]},{"name":"V2","arrival":5760,"amounts":[0,1000000]}],"storage":[{"name":"S1","min":0,"max":2000000,"amounts":[250000,0]},{"name":"S2","min":0,"max":2000000,"amounts":[0,750000]}],"charging":[{"name":"C1","min":0,"max":1000000,"amounts":[500000,0],"demand":[0,1000000]},{"name":"C2","min":0,"max":1000000,"amounts":[0,500000],"demand":[0,1000000]}],"units":[{"name":"CDU","continuous":true,"charges":[2,8]}],"operations":[{"name":"u1","from":"V1","to":"S1","rate":[0,500000],"volume":[1,1000000],"window":[0,11520],"limits":[]},{"name":"u2","from":"V2","to":"S2","rate":[0,500000],"volume":[1,1000000],"window":[5760,11520],"limits":[]},{"name":"t1","from":"S1","to":"C1","rate":[0,500000],"volume":[1,1000000],"window":[0,11520],"limits":[]},{"name":"t2","from":"S1","to":"C2","rate":[0,500000],"volume":[1,1000000],"window":[0,11520],"limits":[]},{"name":"t3","from":"S2","to":"C1","rate":[0,500000],"volume":[1,1000000],"window":[0,11520],"limits":[]},{"name":"t4","from":"S2","to":"C2","rate":[0,500000],"volume":[1,1000000],"window":[0,11520],"limits":[]},{"name":"c1","from":"C1","to":"CDU","rate":[50000,500000],"volume":[1,1000000],"window":[0,11520],"limits":[[0,150]]},{"name":"c2","from":"C2","to":"CDU","rate":[50000,500000],"volume":[1,1000000],"window":[0,11520],"limits":[[0,700]]}]}"#;
+
+pub fn one_charge() -> &'static str {
+    ONE_CHARGE
+}
+
+pub fn fixed_rate() -> &'static str {
+    FIXED_RATE
+}
+
+pub fn losing_charge() -> &'static str {
+    LOSING_CHARGE
+}
+
+pub fn two_inlets() -> &'static str {
+    TWO_INLETS
+}
+
+pub fn two_vessels() -> &'static str {
+    TWO_VESSELS
+}
+
+// What `solve` writes of `one_charge` for one slot and no node: the root stays open.
+const ONE_CHARGE_OPEN: &str =
+    "crude dossier 1\norder time\nslots 1\nnodes 0\nanswer open\nmargin none\nbound 12\nplan none\ncuts 0\nnode 0 open 1\nend\n";
+
+pub fn one_charge_open() -> &'static str {
+    ONE_CHARGE_OPEN
+}
+
+/// The text with another part in the place of the first such part.
+pub fn with(alloc: Global, text: &str, part: &str, other: &str) -> Result<String, Fail> {
+    let (before, after) = text.split_once(part).ok_or("the part stands in the text")?;
+    Ok(format!(in alloc; "{before}{other}{after}")?)
+}

@@ -1,0 +1,49 @@
+//! What stands in the sink where one of its calls fails.
+
+use super::runs::{Ended, Failing, PIECE, outcome};
+use super::samples::{one_charge, one_charge_open};
+use std::alloc::{AllocError, Global};
+use std::test::Fail;
+
+// A run on `one_charge` where this call of the sink fails.
+fn failed_at(alloc: Global, call: u32) -> Result<Ended, AllocError> {
+    let line = "solve plant --slots 1 --nodes 0 --workers 1";
+    let failing = Failing {
+        read: 0,
+        write: call,
+    };
+    outcome(alloc, line, one_charge().as_bytes(), failing)
+}
+
+// The first so many pieces of a text.
+fn pieces(text: &str, count: u32) -> &str {
+    text.get(..(count as usize * PIECE as usize))
+        .unwrap_or(text)
+}
+
+#[test]
+fn keeps_the_pieces_before_a_fault(rt: HostRuntime) -> Result<(), Fail> {
+    for call in 1..=12 {
+        let ended = failed_at(rt.alloc(), call)?;
+        let taken = pieces(one_charge_open(), call - 1);
+        assert!(rt; ended.is(74, taken), "at call {call}: {ended:?}");
+    }
+    Ok(())
+}
+
+#[test]
+fn needs_no_further_call(rt: HostRuntime) -> Result<(), Fail> {
+    let ended = failed_at(rt.alloc(), 13)?;
+    assert!(rt; ended.is(4, one_charge_open()), "{ended:?}");
+    Ok(())
+}
+
+// The read fails first, and then the sink.
+#[test]
+fn keeps_the_first_piece_of_a_refusal(rt: HostRuntime) -> Result<(), Fail> {
+    let line = "solve plant --slots 1 --nodes 0 --workers 1";
+    let failing = Failing { read: 1, write: 2 };
+    let ended = outcome(rt.alloc(), line, one_charge().as_bytes(), failing)?;
+    assert!(rt; ended.is(74, "read faile"), "{ended:?}");
+    Ok(())
+}
