@@ -1,0 +1,9 @@
+pub mod CellLaws
+pub mod ChangeLaws
+pub mod DualLaws
+pub mod EarnedLaws
+pub mod FactorLaws
+pub mod KeepLaws
+pub mod RoomLaws
+pub mod SingleLaws
+pub mod StoredNumbers

@@ -1,0 +1,4 @@
+pub mod Bounds
+pub mod Columns
+pub mod Points
+pub mod Rows
