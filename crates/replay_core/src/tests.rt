@@ -1,0 +1,2 @@
+mod plants;
+mod replays;

@@ -1,0 +1,90 @@
+ghost use Rattle.std.specs.Prelude.{◌<◌};
+ghost use Rattle.plant_model.specs.Parts.{place_count_of};
+
+use crate::tests::plants::one_charge;
+use crate::{Broken, Replay, ReplayFault, Timed, replay};
+use plant_model::{Pair, Plant};
+use std::alloc::Global;
+use std::process::Abort;
+use std::test::Fail;
+
+fn run(op: u8, start: u32, end: u32, volume: u32) -> Timed {
+    Timed {
+        op,
+        start,
+        end,
+        volume,
+    }
+}
+
+/// That rule is the first that is broken, there.
+fn broken(rule: u8, at: u32) -> Result<i64, ReplayFault> {
+    Err(ReplayFault::Rule(Broken { rule, at }))
+}
+
+/// The plan has that margin, or breaks that rule first.
+fn assert_replays(
+    rt: &impl Abort,
+    alloc: Global,
+    plant: &Plant,
+    plan: &[Timed],
+    wanted: Result<i64, ReplayFault>,
+) {
+    assert!(rt; plan.len() <= 1000);
+    let margin = match replay(alloc, plant, plan) {
+        Ok(outcome) => Ok(outcome.margin),
+        Err(fault) => Err(fault),
+    };
+    assert_eq!(rt; margin, wanted);
+}
+
+fn sample(alloc: Global, rate: Pair, continuous: bool) -> Result<Plant, Fail> {
+    let any = Pair { lo: 0, hi: 40 };
+    Ok(Plant::new(alloc, one_charge(alloc, rate, any, continuous)?)?)
+}
+
+#[test]
+fn replays_one_charge(rt: HostRuntime) -> Result<(), Fail> {
+    let alloc = rt.alloc();
+    let plant = sample(alloc, Pair { lo: 0, hi: 2880 }, false)?;
+    for (op, minutes, volume, wanted) in [
+        (0, 1, 2, Ok(6)),
+        (0, 2, 4, Ok(12)),
+        (0, 1, 3, broken(5, 1)),
+        (0, 1, 0, broken(4, 1)),
+        (255, 1, 2, broken(1, 1)),
+    ] {
+        assert_replays(&rt, alloc, &plant, &[run(op, 0, minutes, volume)], wanted);
+    }
+    Ok(())
+}
+
+#[test]
+fn refuses_a_charge_at_a_fixed_rate(rt: HostRuntime) -> Result<(), Fail> {
+    let alloc = rt.alloc();
+    let plant = sample(alloc, Pair { lo: 4320, hi: 4320 }, true)?;
+    assert_replays(&rt, alloc, &plant, &[run(0, 0, 2, 4)], broken(5, 1));
+    assert_replays(&rt, alloc, &plant, &[run(0, 0, 1, 3)], broken(14, 1));
+    Ok(())
+}
+
+/// Unit 1 has got one charge of one minute and two volume units, which earn 6.
+fn assert_charged_once(rt: &impl Abort, replay: &Replay<'_>)
+    requires { 1 < place_count_of replay.now.parts }
+{
+    assert_eq!(rt; replay.held(1).total(), 2);
+    assert_eq!(rt; replay.charges(1), 1);
+    assert_eq!(rt; replay.minutes(1), 1);
+    assert_eq!(rt; replay.finish(), Ok(6));
+}
+
+#[test]
+fn steps_and_finishes(rt: HostRuntime) -> Result<(), Fail> {
+    let alloc = rt.alloc();
+    let plant = sample(alloc, Pair { lo: 0, hi: 2880 }, false)?;
+    assert!(rt; plant.place_count() == 2);
+    let mut replay = Replay::new(alloc, &plant)?;
+    replay.step(run(0, 0, 1, 2))?;
+    assert_charged_once(&rt, &replay);
+    Ok(())
+}
