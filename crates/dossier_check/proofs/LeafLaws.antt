@@ -32,7 +32,7 @@ IsNodeOf-lawful box (Some (Leaf leaf)) lawful = tt
 IsSearchTree-lawful : (root : List Slot) (tree : List Node) → AreLawful root tree → IsSearchTree root (slice_get tree)
 IsSearchTree-lawful root tree lawful id box has = IsNodeOf-lawful box (slice_get tree id) (lawful id box has)
 
-IsBox-node : (root : List Slot) (tree : List Node) → PartsAreBoxes → IsBox root → AreLawful root tree → (id : ℕ) (box : List Slot) → HasBox root (slice_get tree) id box → IsBox box
+pub IsBox-node : (root : List Slot) (tree : List Node) → PartsAreBoxes → IsBox root → AreLawful root tree → (id : ℕ) (box : List Slot) → HasBox root (slice_get tree) id box → IsBox box
 IsBox-node root tree parts is lawful id box root_box = is
 IsBox-node root tree parts is lawful id box (left_part {id = parent} {split} {box = whole} has node) =
     (parts whole split (IsBox-node root tree parts is lawful parent whole has) (subst (IsLawfulNode whole) node (lawful parent whole has))).0

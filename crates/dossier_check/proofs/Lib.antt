@@ -1,2 +1,11 @@
 pub mod LeafLaws
 pub mod ClaimLaws
+pub mod SplitTests
+pub mod PlanLaws
+pub mod WalkLaws
+pub mod MeetLaws
+pub mod PlaceLaws
+pub mod PassLaws
+pub mod StandLaws
+pub mod GreatestLaws
+pub mod ReasonLaws

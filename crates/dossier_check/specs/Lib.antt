@@ -2,3 +2,8 @@ pub mod Plans
 pub mod Nodes
 pub mod Accepted
 pub mod Claims
+pub mod Earlier
+pub mod NodeReasons
+pub mod Reasons
+pub mod Walks
+pub mod Verdicts

@@ -1,4 +1,5 @@
 ghost use Rattle.dossier_check.specs.Claims.{AcceptedClaimsAreTrue};
+ghost use Rattle.dossier_check.specs.Verdicts.{NothingStandsAgainstAccepted};
 
 use leaf_value::form_laws;
 use plant_model::Plant;
@@ -13,4 +14,12 @@ pub fn accepted_claim_laws(plant: &Plant)
     box_laws();
     split_laws();
     tree_laws();
+}
+
+/// What it means that nothing stands against a dossier: a call does nothing and brings the law.
+pub fn reason_laws(plant: &Plant)
+    ensures { NothingStandsAgainstAccepted plant.now }
+{
+    form_laws(plant);
+    split_laws();
 }

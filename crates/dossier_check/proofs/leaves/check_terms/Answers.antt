@@ -1,0 +1,26 @@
+use Rattle.std.proofs.Common.{◌≡◌, ◌<◌, ◌≤◌, Err, None, Some, length, drop, get_or, arith, ap, sym, ◌∙◌}
+use Rattle.std.specs.Result.{result_err}
+use Rattle.std.proofs.lemmas.List.{drop_all}
+use Rattle.std.proofs.lemmas.Result.{err_from_is_err_and}
+use Rattle.item_lists.specs.Faults.{first_of}
+use Rattle.dossier_check.specs.NodeReasons.{terms_reasons}
+use Rattle.dossier_check.proofs.WalkLaws.{terms-next, terms-stop}
+use Rattle.dossier_check.proofs.leaves.check_terms.Goals as goal
+
+pub loop-term-preserved : goal.loop-term-preserved
+loop-term-preserved c =
+    let none = sym c.check_term.ensures ∙ ap result_err c.in_ok-check_term.was in
+    sym (terms-next c.args.cuts c.args.line c.loop-term.term-index c.args.terms.now _ (omega arith) none) ∙ c.loop-term.invariant
+
+pub returns-in_err-check_term : goal.returns-in_err-check_term
+returns-in_err-check_term c =
+    let found = sym c.check_term.ensures ∙ ap result_err c.in_err-check_term.was in
+    let p = err_from_is_err_and c.from_residual.result c.from_residual.ensures.1 in
+    ap result_err (p.1 ∙ ap Err p.2)
+    ∙ sym (terms-stop c.args.cuts c.args.line c.loop-term.term-index c.args.terms.now _ c.in_err-check_term.field-0.0 (omega arith) found)
+    ∙ c.loop-term.invariant
+
+pub returns : goal.returns
+returns c =
+    let past : length c.args.terms.now ≤ c.loop-term.term-index = omega arith in
+    sym (ap (λ rest. first_of (terms_reasons c.args.cuts c.args.line rest)) (drop_all c.loop-term.term-index c.args.terms.now past)) ∙ c.loop-term.invariant

@@ -1,0 +1,53 @@
+-- What is answered of bytes: yes with what the dossier gives, or the first reason for which it is not accepted.
+use Rattle.std.specs.Prelude.{◌≡◌, ℕ, ◌↔◌, List, [], Option, Some, None, option_map, Result, Ok, Err, IfOk, ⊤}
+use Rattle.item_lists.specs.Faults.{first_of}
+use Rattle.plant_model.specs.declared.parts.Parts.{Parts}
+use Rattle.dossier_text.specs.declared.dossier.Dossier.{Dossier}
+use Rattle.dossier_text.specs.Ranges.{IsReadable}
+use Rattle.dossier_text.specs.Text.{dossier_bytes}
+use Rattle.dossier_check.specs.declared.verdict.Claim.{Claim}
+use Rattle.dossier_check.specs.declared.verdict.Reason.{Reason}
+use Rattle.dossier_check.specs.declared.verdict.Refusal.{Refusal}
+use Rattle.dossier_check.specs.declared.verdict.Refusal.TheVariants.{First, Memory}
+use Rattle.dossier_check.specs.declared.verdict.Verdict.{Verdict}
+use Rattle.dossier_check.specs.declared.verdict.Verdict.TheVariants.{Yes, No}
+use Rattle.dossier_check.specs.Plans.{plan_of}
+use Rattle.dossier_check.specs.Accepted.{IsAccepted}
+use Rattle.dossier_check.specs.NodeReasons.{reason}
+use Rattle.dossier_check.specs.Reasons.{dossier_reasons, reasons_of}
+
+-- what a dossier gives: its slots, its plan with the margin, and its bound
+abbrev pub told_of : Parts → Dossier → Claim
+told_of parts dossier = record { slots = dossier.slots; plan = option_map (plan_of parts) dossier.plan; margin = dossier.margin; bound = dossier.bound }
+
+-- the bytes are the text of an accepted dossier, which gives this
+pub record IsTold (parts : Parts) (bytes : List ℕ) (claim : Claim) : Type 0 where
+  pub dossier : Dossier
+  pub readable : IsReadable dossier
+  pub text : bytes ≡ dossier_bytes dossier
+  pub accepted : IsAccepted parts dossier
+  pub told : claim ≡ told_of parts dossier
+
+-- the verdict on the bytes: yes where they are an accepted dossier, or else the first of the reasons why they are none
+abbrev pub IsVerdict : Parts → List ℕ → Verdict → Type 0
+IsVerdict parts bytes (Yes claim) = IsTold parts bytes claim
+IsVerdict parts bytes (No number line) = first_of (reasons_of parts bytes) ≡ Some (reason number line)
+
+-- likewise on a dossier that was read
+abbrev pub IsVerdictOn : Parts → Dossier → Verdict → Type 0
+IsVerdictOn parts dossier (Yes claim) = (dossier_reasons parts dossier ≡ []) × (claim ≡ told_of parts dossier)
+IsVerdictOn parts dossier (No number line) = first_of (dossier_reasons parts dossier) ≡ Some (reason number line)
+
+-- the text of an accepted dossier is given yes
+abbrev pub IsYesOfAccepted : Parts → List ℕ → Verdict → Type 0
+IsYesOfAccepted parts bytes verdict = (dossier : Dossier) → IsReadable dossier → bytes ≡ dossier_bytes dossier → IsAccepted parts dossier → verdict ≡ Yes (told_of parts dossier)
+
+-- nothing stands against a dossier that can be read exactly where it is accepted
+abbrev pub NothingStandsAgainstAccepted : Parts → Type 0
+NothingStandsAgainstAccepted parts = (dossier : Dossier) → IsReadable dossier → (dossier_reasons parts dossier ≡ []) ↔ IsAccepted parts dossier
+
+-- what a test answers: all is well where none of the reasons stands, or the first that stands, or memory ran out
+abbrev pub Tests : {X : Type 0} → List Reason → Result X Refusal → Type 0
+Tests reasons (Ok x) = first_of reasons ≡ None
+Tests reasons (Err (First found)) = first_of reasons ≡ Some found
+Tests reasons (Err Memory) = ⊤

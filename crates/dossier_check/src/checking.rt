@@ -1,0 +1,147 @@
+ghost use Rattle.std.specs.Prelude.{◌≡◌, ◌+◌, ◌≤◌, length, IfOk, OnOk};
+ghost use Rattle.std.specs.Result.{result_err};
+ghost use Rattle.item_lists.specs.Faults.{first_of};
+ghost use Rattle.dossier_text.specs.Ranges.{IsReadable};
+ghost use Rattle.dossier_text.specs.Reading.{plan_length};
+ghost use Rattle.dossier_check.specs.Reasons.{slot_reasons, cut_reasons, first_cut_line, first_node_line, is_same, fits_answer, claim_reasons, dossier_reasons};
+ghost use Rattle.dossier_check.specs.Verdicts.{Tests, told_of, IsVerdict, IsVerdictOn, IsYesOfAccepted};
+
+use crate::laws::reason_laws;
+use crate::plan::check_plan;
+use crate::tree::check_tree;
+use crate::verdict::{Claim, Reason, Refusal, Verdict};
+use dossier_text::{Dossier, DossierFault, Word3, read_dossier};
+use item_lists::expect;
+use plan_text::OpLines;
+use plant_model::Plant;
+use std::alloc::{AllocError, Global};
+
+/// How many lines a plan has.
+fn plan_length(plan: &Option<OpLines>) -> u32
+    requires { plan_length plan.now ≤ 40 }
+    ensures { result ≡ plan_length plan.now }
+{
+    match plan {
+        None => 0,
+        Some(lines) => lines.as_slice().len() as u32,
+    }
+}
+
+/// Tests the number of slots.
+#[tactic(auto, unfolding(crate::specs::Reasons::slot_reasons))]
+fn check_slots(dossier: &Dossier) -> Result<(), Reason>
+    ensures reasons { result_err result ≡ first_of (slot_reasons dossier.now) }
+    ensures some { OnOk result (1 ≤ dossier.now.slots) }
+    ensures most { OnOk result (dossier.now.slots ≤ 40) }
+{
+    expect(
+        1 <= dossier.slots && dossier.slots <= 40,
+        Reason { reason: 3, line: 3 },
+    )
+}
+
+/// Tests the cuts, the first of which stands in this line. So far none is valid.
+#[tactic(auto, unfolding(crate::specs::Reasons::cut_reasons))]
+fn check_cuts(dossier: &Dossier, line: u32) -> Result<(), Reason>
+    requires { line ≡ first_cut_line dossier.now }
+    ensures { result_err result ≡ first_of (cut_reasons dossier.now) }
+{
+    match dossier.cuts.as_slice().first() {
+        None => Ok(()),
+        Some(_) => Err(Reason { reason: 12, line }),
+    }
+}
+
+/// Whether a number, or none, is given where it should.
+fn is_same(given: Option<i64>, wanted: Option<i64>) -> bool
+    ensures { result ≡ is_same given wanted }
+{
+    match (given, wanted) {
+        (None, None) => true,
+        (Some(given), Some(wanted)) => given == wanted,
+        (None, Some(_)) | (Some(_), None) => false,
+    }
+}
+
+/// Whether that which the answer is about is given, and nothing else.
+fn fits_answer(dossier: &Dossier) -> bool
+    ensures { result ≡ fits_answer dossier.now.answer dossier.now.margin dossier.now.bound dossier.now.plan }
+{
+    let has_plan = dossier.plan.is_some();
+    match dossier.answer {
+        Word3::Plan => dossier.margin.is_some() && has_plan,
+        Word3::Infeasible => dossier.margin.is_none() && dossier.bound.is_none() && !has_plan,
+        Word3::Open3 => dossier.margin.is_none() && dossier.bound.is_some() && !has_plan,
+    }
+}
+
+/// Tests the bound against the greatest value of a leaf, and then the answer.
+#[tactic(auto, using(item_lists::proofs::FaultLaws::first_fault), unfolding(crate::specs::Reasons::claim_reasons))]
+fn check_answer(dossier: &Dossier, greatest: Option<i64>) -> Result<(), Reason>
+    ensures { result_err result ≡ first_of (claim_reasons dossier.now greatest) }
+{
+    expect(
+        is_same(dossier.bound, greatest),
+        Reason {
+            reason: 15,
+            line: 7,
+        },
+    )?;
+    expect(
+        fits_answer(dossier),
+        Reason {
+            reason: 16,
+            line: 5,
+        },
+    )
+}
+
+/// Tests a dossier that was read: what it gives.
+#[tactic(auto, using(item_lists::proofs::FaultLaws::first_fault), unfolding(crate::specs::Reasons::dossier_reasons))]
+fn check_dossier(alloc: Global, plant: &Plant, dossier: &Dossier) -> Result<Claim, Refusal>
+    requires { IsReadable dossier.now }
+    ensures reasons { Tests (dossier_reasons plant.now dossier.now) result }
+    ensures told { IfOk result (λ claim. claim ≡ told_of plant.now dossier.now) }
+{
+    check_slots(dossier)?;
+    let line = 10 + plan_length(&dossier.plan);
+    check_cuts(dossier, line)?;
+    let line = line + dossier.cuts.as_slice().len() as u32;
+    let greatest = check_tree(alloc, plant, dossier, line)?;
+    check_answer(dossier, greatest)?;
+    let plan = check_plan(alloc, plant, dossier.slots, dossier.margin, &dossier.plan)?;
+    Ok(Claim {
+        slots: dossier.slots,
+        plan,
+        margin: dossier.margin,
+        bound: dossier.bound,
+    })
+}
+
+/// The verdict on the bytes of a dossier for the plant: yes, with what it gives, exactly where it is
+/// accepted, and otherwise no, with the first reason and its line.
+pub fn check(alloc: Global, plant: &Plant, bytes: &[u8]) -> Result<Verdict, AllocError>
+    ensures verdict { IfOk result (IsVerdict plant.now bytes.now) }
+    ensures accepted { IfOk result (IsYesOfAccepted plant.now bytes.now) }
+{
+    reason_laws(plant);
+    match read_dossier(alloc, bytes) {
+        Ok(dossier) => verdict_on(alloc, plant, &dossier),
+        Err(DossierFault::Line(line)) => Ok(Verdict::No { reason: 1, line }),
+        Err(DossierFault::TooMany(line)) => Ok(Verdict::No { reason: 2, line }),
+        Err(DossierFault::Memory) => Err(AllocError),
+    }
+}
+
+/// The verdict on a dossier that was read.
+#[tactic(auto, using(item_lists::proofs::FaultLaws::nil_of_none))]
+fn verdict_on(alloc: Global, plant: &Plant, dossier: &Dossier) -> Result<Verdict, AllocError>
+    requires { IsReadable dossier.now }
+    ensures { IfOk result (IsVerdictOn plant.now dossier.now) }
+{
+    match check_dossier(alloc, plant, dossier) {
+        Ok(claim) => Ok(Verdict::Yes(claim)),
+        Err(Refusal::First(Reason { reason, line })) => Ok(Verdict::No { reason, line }),
+        Err(Refusal::Memory) => Err(AllocError),
+    }
+}

@@ -1,0 +1,57 @@
+ghost use Rattle.std.specs.Prelude.{◌≡◌};
+ghost use Rattle.dossier_check.specs.declared.verdict.Refusal.TheVariants.{First, Memory};
+
+use replay_core::Word;
+use std::alloc::AllocError;
+
+/// Why a dossier is not accepted: the number of the test that it fails, and the line where.
+#[derive(Clone, Copy, Debug, PartialEq, Eq)]
+pub struct Reason {
+    pub reason: u8,
+    pub line: u32,
+}
+
+/// What an accepted dossier gives.
+#[derive(Debug, Drop)]
+pub struct Claim {
+    /// The most operations of the plans that it speaks of.
+    pub slots: u32,
+    pub plan: Option<Word>,
+    /// The plan's, in money.
+    pub margin: Option<i64>,
+    /// On the margin of every plan; where there is none, there is no plan.
+    pub bound: Option<i64>,
+}
+
+/// Whether bytes are an accepted dossier.
+#[derive(Debug, Drop)]
+pub enum Verdict {
+    /// They are, and it gives this.
+    Yes(Claim),
+    /// They are not, for this reason first.
+    No { reason: u8, line: u32 },
+}
+
+/// Why a test was not passed.
+#[derive(Clone, Copy, Debug, PartialEq, Eq)]
+pub enum Refusal {
+    /// The first reason that stands.
+    First(Reason),
+    Memory,
+}
+
+impl From<Reason> for Refusal {
+    ghost from_gives = { λ reason refusal. refusal ≡ First reason };
+
+    fn from(reason: Reason) -> Refusal {
+        Refusal::First(reason)
+    }
+}
+
+impl From<AllocError> for Refusal {
+    ghost from_gives = { λ _ refusal. refusal ≡ Memory };
+
+    fn from(_error: AllocError) -> Refusal {
+        Refusal::Memory
+    }
+}
