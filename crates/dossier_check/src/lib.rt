@@ -1,14 +1,20 @@
-//! When a dossier is accepted, and what follows from it.
+//! Whether a dossier is accepted, and what follows from it.
 //!
 //! A dossier gives an answer and a search tree that shows it. It is accepted where its tree divides the
 //! root box of its plant lawfully, its bound is the greatest value of a leaf, and a plan that it gives
-//! earns what it says. To the crates above this crate promises, by [`accepted_claim_laws`], that whatever
-//! an accepted dossier claims is true, whoever wrote it; and that [`check`] decides the bytes of any
-//! dossier: yes exactly where it is accepted, and else the first reason why it is not, with its line.
+//! earns what it says.
 //!
-//! Begin with `specs/Accepted.antt`, from there go to `specs/Nodes.antt`, and to `specs/Claims.antt`. The
-//! reasons in their order are in `specs/Reasons.antt`, what is answered in `specs/Verdicts.antt`, and the
-//! pass over the nodes in `tree`.
+//! To the crates above this crate promises that [`check`] says yes exactly where bytes are the text of an
+//! accepted dossier, with what it gives, and otherwise no, with the first reason and its line; and, by
+//! [`accepted_claim_laws`], that whatever an accepted dossier claims is true, whoever wrote it. The reasons
+//! are a definition of their own, which lists all that stands against a dossier in the order of the tests;
+//! [`reason_laws`] says that nothing does exactly where it is accepted. So far no cut is valid, no row has a
+//! name, and no leaf is dead or void.
+//!
+//! Begin with `specs/Accepted`, from there go to `specs/Nodes` and `specs/Claims`; then, for the first reason,
+//! with `specs/Reasons` and `specs/NodeReasons`, and for the answer with `specs/Verdicts`. In the code
+//! `checking` goes through the tests in their order, and `tree` meets each node once: `met` keeps the boxes
+//! of the nodes whose parents were met.
 #![tactic(auto)]
 
 mod checking;
@@ -16,10 +22,12 @@ mod laws;
 mod leaves;
 mod met;
 mod plan;
+#[cfg(test)]
+mod tests;
 mod tree;
 mod verdict;
 
 pub use checking::check;
 pub use laws::{accepted_claim_laws, reason_laws};
 pub use leaf_value::plain_value;
-pub use verdict::{Claim, Reason, Refusal, Verdict};
+pub use verdict::{Claim, Verdict};

@@ -6,9 +6,9 @@ use std::alloc::AllocError;
 
 /// Why a dossier is not accepted: the number of the test that it fails, and the line where.
 #[derive(Clone, Copy, Debug, PartialEq, Eq)]
-pub struct Reason {
-    pub reason: u8,
-    pub line: u32,
+pub(crate) struct Reason {
+    pub(crate) reason: u8,
+    pub(crate) line: u32,
 }
 
 /// What an accepted dossier gives.
@@ -34,7 +34,7 @@ pub enum Verdict {
 
 /// Why a test was not passed.
 #[derive(Clone, Copy, Debug, PartialEq, Eq)]
-pub enum Refusal {
+pub(crate) enum Refusal {
     /// The first reason that stands.
     First(Reason),
     Memory,

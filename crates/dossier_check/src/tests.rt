@@ -1,0 +1,4 @@
+mod cases;
+mod plants;
+mod samples;
+mod verdicts;

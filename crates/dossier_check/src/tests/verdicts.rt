@@ -1,0 +1,93 @@
+use super::cases::{divided_box_cases, single_box_cases};
+use super::plants::one_charge;
+use super::samples::{falling_tickets, one_dual, split_once, with};
+use crate::{Verdict, check};
+use plant_model::Plant;
+use std::alloc::{AllocError, Global};
+use std::test::Fail;
+
+/// The verdict in words.
+fn told(alloc: Global, plant: &Plant, file: &str) -> Result<String, AllocError> {
+    match check(alloc, plant, file.as_bytes())? {
+        Verdict::Yes(claim) => {
+            let steps = claim.plan.map_or(0, |plan| plan.as_slice().len());
+            let margin = claim.margin.unwrap_or(-1);
+            let bound = claim.bound.unwrap_or(-1);
+            format!(in alloc; "yes {} {steps} {margin} {bound}", claim.slots)
+        }
+        Verdict::No { reason, line } => format!(in alloc; "no {reason} {line}"),
+    }
+}
+
+fn is_told(alloc: Global, plant: &Plant, file: &str, answer: &str) -> Result<bool, Fail> {
+    Ok(told(alloc, plant, file)?.as_str() == answer)
+}
+
+/// Whether this is the verdict on the file with another part in the place of one.
+fn is_told_with(
+    alloc: Global,
+    plant: &Plant,
+    file: &str,
+    case: (&str, &str, &str),
+) -> Result<bool, Fail> {
+    let (part, other, answer) = case;
+    let changed = with(alloc, file, part, other)?;
+    is_told(alloc, plant, changed.as_str(), answer)
+}
+
+#[test]
+fn accepts_what_is_so(rt: HostRuntime) -> Result<(), Fail> {
+    let alloc = rt.alloc();
+    let plant = one_charge(alloc, 3, 0)?;
+    assert!(rt; is_told(alloc, &plant, one_dual(), "yes 1 1 12 12")?);
+    assert!(rt; is_told(alloc, &plant, split_once(), "yes 1 1 12 12")?);
+    assert!(rt; is_told(alloc, &plant, falling_tickets(), "yes 1 0 -1 12")?);
+    Ok(())
+}
+
+#[test]
+fn names_the_first_reason_of_a_single_box(rt: HostRuntime) -> Result<(), Fail> {
+    let alloc = rt.alloc();
+    let plant = one_charge(alloc, 3, 0)?;
+    for case in single_box_cases() {
+        assert!(rt; is_told_with(alloc, &plant, one_dual(), *case)?, "{case:?}");
+    }
+    Ok(())
+}
+
+#[test]
+fn names_the_first_reason_of_a_divided_box(rt: HostRuntime) -> Result<(), Fail> {
+    let alloc = rt.alloc();
+    let plant = one_charge(alloc, 3, 0)?;
+    for case in divided_box_cases() {
+        assert!(rt;
+            is_told_with(alloc, &plant, split_once(), *case)?,
+            "{case:?}"
+        );
+    }
+    Ok(())
+}
+
+#[test]
+fn finds_a_ticket_that_is_held_twice(rt: HostRuntime) -> Result<(), Fail> {
+    let alloc = rt.alloc();
+    let plant = one_charge(alloc, 3, 0)?;
+    let case = ("split 1 1", "split 2 1", "no 4 12");
+    assert!(rt; is_told_with(alloc, &plant, falling_tickets(), case)?);
+    Ok(())
+}
+
+// The plan breaks a rule on its end.
+#[test]
+fn names_the_line_of_the_plan(rt: HostRuntime) -> Result<(), Fail> {
+    let plant = one_charge(rt.alloc(), 3, 2)?;
+    assert!(rt; is_told(rt.alloc(), &plant, one_dual(), "no 17 8")?);
+    Ok(())
+}
+
+#[test]
+fn bounds_a_dearer_charge(rt: HostRuntime) -> Result<(), Fail> {
+    let plant = one_charge(rt.alloc(), 4, 0)?;
+    assert!(rt; is_told(rt.alloc(), &plant, one_dual(), "no 15 7")?);
+    Ok(())
+}
