@@ -2,6 +2,10 @@
 
 use super::runs::{Ended, SOUND, outcome};
 use super::samples::{fixed_rate, losing_charge, one_charge};
+use crate::solve_alone;
+use dossier_check::{Verdict, check};
+use outer_edge::FreeGate;
+use plant_text::read_plant;
 use std::alloc::{AllocError, Global};
 use std::test::Fail;
 
@@ -34,5 +38,15 @@ fn finds_that_there_is_no_plan(rt: HostRuntime) -> Result<(), Fail> {
     let ended = solved(rt.alloc(), FULL, fixed_rate())?;
     let lines = "\nanswer infeasible\nmargin none\nbound none\nplan none\ncuts 0\n";
     assert!(rt; ended.claims(3, lines), "{ended:?}");
+    Ok(())
+}
+
+#[test]
+fn writes_what_the_checker_accepts(rt: HostRuntime) -> Result<(), Fail> {
+    let alloc = rt.alloc();
+    let plant = read_plant(alloc, one_charge().as_bytes())?;
+    let answer = solve_alone(alloc, &plant, 1, 45, &FreeGate)?;
+    let verdict = check(alloc, &plant, answer.text.as_slice())?;
+    assert!(rt; matches!(&verdict, Verdict::Yes(_)), "{verdict:?}");
     Ok(())
 }
