@@ -1,22 +1,19 @@
 -- The greatest value of the nodes is the greatest leaf value of the tree.
-use Rattle.std.proofs.Common.{◌≡◌, ◌≢◌, ℕ, zero, suc, inl, inr, ◌+◌, ◌<◌, ◌≤◌, ℤ, ◌≤ℤ◌, Bool, true, false, Option, Some, None, List, [], ◌∷◌, length, drop, refl, sym, ap, ◌∙◌, subst, arith}
-use Rattle.std.specs.Prelude.{◌⊎◌, slice_get, int_lt, if◌then◌else◌}
-use Rattle.std.specs.Ordering.{int_eq}
+use Rattle.std.proofs.Common.{◌≡◌, ℕ, suc, inl, inr, ◌+◌, ◌<◌, ℤ, ◌≤ℤ◌, true, Option, Some, None, List, [], ◌∷◌, length, drop, refl, sym, ap, ◌∙◌, subst, arith}
+use Rattle.std.specs.Prelude.{◌⊎◌, slice_get, int_lt}
 use Rattle.std.proofs.lemmas.Bool.{cases_Bool, cases_eq, cond-true, cond-false}
 use Rattle.std.proofs.lemmas.Bool.Decides.{Decides-int_eq}
 use Rattle.std.proofs.lemmas.Int.{ints}
 use Rattle.plant_model.specs.declared.parts.Parts.{Parts}
-use Rattle.slot_box.specs.declared.node.Leaf.{Leaf as LeafKind}
 use Rattle.slot_box.specs.declared.node.Node.{Node}
 use Rattle.slot_box.specs.declared.node.Node.TheVariants.{Inner, Leaf}
 use Rattle.slot_box.specs.declared.slot.Slot.{Slot}
-use Rattle.leaf_value.specs.LeafValue.{leaf_value_of}
-use Rattle.dossier_check.specs.Earlier.{box_of, with_node}
+use Rattle.dossier_check.specs.Earlier.{with_node}
 use Rattle.dossier_check.specs.NodeReasons.{node_value, greater, greatest_value}
-use Rattle.dossier_check.specs.Nodes.{IsLeaf, IsLeafValue, NoLeafHasValue, IsBoundOf}
+use Rattle.dossier_check.specs.Nodes.{IsLeafValue, IsBoundOf}
 use Rattle.dossier_check.specs.Reasons.{is_same}
 use Rattle.dossier_check.proofs.PlaceLaws.{rest_at, with_found, holders, box_at, has_box}
-use Rattle.dossier_check.proofs.StandLaws.{IsPlaced, ArePlaced}
+use Rattle.dossier_check.proofs.StandLaws.{ArePlaced}
 
 module _ (parts : Parts) (root : List Slot) (tree : List Node) where
   abbrev found_value : Option (List Slot) → Option Node → Option ℤ

@@ -1,6 +1,6 @@
 -- One node is met.
-use Rattle.std.proofs.Common.{◌≡◌, ℕ, inl, inr, ◌+◌, ◌*◌, ◌<◌, ◌≤◌, Bool, true, false, ℤ, Option, Some, None, Result, Ok, Err, List, [], ◌∷◌, ◌++◌, length, get_or, refl, sym, ap, ◌∙◌, subst, arith}
-use Rattle.std.specs.Prelude.{◌⊎◌, nat_lt, not, ◌&&◌}
+use Rattle.std.proofs.Common.{◌≡◌, ℕ, inl, inr, ◌+◌, ◌<◌, Bool, false, ℤ, Option, Some, None, Err, List, [], ◌∷◌, length, get_or, sym, ap, ◌∙◌, subst}
+use Rattle.std.specs.Prelude.{nat_lt, not, ◌&&◌}
 use Rattle.std.proofs.lemmas.Bool.{cases_lt, le-ltb, and_left, eqb-true}
 use Rattle.item_lists.specs.Faults.{first_of, unless}
 use Rattle.item_lists.proofs.FaultLaws.{first_of-front, first_of-back, nil_of_none, holds_of_nil}
@@ -8,7 +8,7 @@ use Rattle.plant_model.specs.declared.parts.Parts.{Parts}
 use Rattle.slot_box.specs.declared.node.Leaf.{Leaf as LeafKind}
 use Rattle.slot_box.specs.declared.node.Leaf.TheVariants.{Point}
 use Rattle.slot_box.specs.declared.node.Node.{Node}
-use Rattle.slot_box.specs.declared.node.Node.TheVariants.{Inner, Leaf}
+use Rattle.slot_box.specs.declared.node.Node.TheVariants.{Inner}
 use Rattle.slot_box.specs.declared.slot.Slot.{Slot}
 use Rattle.slot_box.specs.declared.split.Split.{Split}
 use Rattle.slot_box.specs.Boxes.{points_of}

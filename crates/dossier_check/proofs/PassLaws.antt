@@ -1,5 +1,5 @@
 -- What it means for a node that nothing stands against it.
-use Rattle.std.proofs.Common.{◌≡◌, ◌≢◌, ℕ, zero, suc, inl, inr, ◌+◌, ◌*◌, ◌^◌, ◌<◌, ◌≤◌, Bool, true, false, Option, Some, None, List, [], ◌∷◌, ◌++◌, length, drop, refl, sym, ap, ap₂, ◌∙◌, subst, arith}
+use Rattle.std.proofs.Common.{◌≡◌, ℕ, zero, suc, ◌+◌, ◌^◌, ◌<◌, ◌≤◌, Bool, true, false, Option, Some, None, List, [], ◌∷◌, ◌++◌, length, drop, refl, sym, ap, ap₂, ◌∙◌, subst, arith}
 use Rattle.std.specs.Prelude.{◌==◌, nat_lt, nat_le, not, ◌&&◌, slice_get}
 use Rattle.std.proofs.lemmas.Bool.{and_parts, and_from, ltb-true, lt-ltb, leb-true, le-leb, eqb-true, eq-eqb, not-true, not_from_false}
 use Rattle.std.proofs.lemmas.Option.{slice_get_within}
@@ -16,8 +16,7 @@ use Rattle.slot_box.specs.declared.term.Term.TheVariants.{Row, Cut}
 use Rattle.slot_box.specs.Boxes.{points_of}
 use Rattle.slot_box.specs.Splits.{is_lawful}
 use Rattle.leaf_value.specs.LeafValue.{IsPlain}
-use Rattle.dossier_check.specs.declared.verdict.Reason.{Reason}
-use Rattle.dossier_check.specs.Earlier.{Holder, is_held, box_of, with_node}
+use Rattle.dossier_check.specs.Earlier.{Holder, is_held, with_node}
 use Rattle.dossier_check.specs.NodeReasons.{reason, term_reasons, terms_reasons, bounding_reasons, leaf_reasons, inner_reasons, node_reasons, nodes_reasons}
 use Rattle.dossier_check.proofs.PlaceLaws.{item_at, rest_at, with_found, holders, box_at}
 

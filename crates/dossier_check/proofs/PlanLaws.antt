@@ -1,5 +1,5 @@
 -- The first rule that a plan breaks, as a reason.
-use Rattle.std.proofs.Common.{◌≡◌, ℕ, ◌+◌, ◌<◌, ◌≤◌, Bool, true, false, Option, Some, None, List, [], ◌∷◌, ◌++◌, length, map, take, get_or, refl, sym, ap, ◌∙◌, subst, arith, length-append}
+use Rattle.std.proofs.Common.{◌≡◌, ℕ, ◌+◌, ◌<◌, ◌≤◌, Bool, true, false, Some, None, List, [], ◌∷◌, ◌++◌, length, map, take, get_or, refl, sym, ap, ◌∙◌, subst, arith, length-append}
 use Rattle.std.specs.Prelude.{nat_le}
 use Rattle.std.specs.List.{AllByRecursion}
 use Rattle.std.proofs.lemmas.Bool.{leb-true}
@@ -17,7 +17,6 @@ use Rattle.replay_core.specs.State.{state_after}
 use Rattle.replay_core.specs.Legal.{broken, own_faults, order_faults, place_faults, op_faults, step_faults_from, step_faults, vessel_faults, demand_faults, unit_faults, end_faults, plan_faults, first_broken}
 use Rattle.dossier_check.specs.declared.verdict.Reason.{Reason}
 use Rattle.dossier_check.specs.Plans.{timed_of, plan_of}
-use Rattle.dossier_check.specs.NodeReasons.{reason}
 use Rattle.dossier_check.specs.Reasons.{rule_reason}
 
 -- ---- the operations of lines

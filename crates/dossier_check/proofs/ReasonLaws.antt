@@ -1,5 +1,5 @@
 -- Nothing stands against a dossier exactly where it is accepted.
-use Rattle.std.proofs.Common.{◌≡◌, ◌≢◌, ℕ, ◌+◌, ◌*◌, ◌<◌, ◌≤◌, ℤ, Bool, true, false, Option, Some, None, List, [], ◌∷◌, ◌++◌, length, map, refl, sym, ap, ◌∙◌, subst, arith}
+use Rattle.std.proofs.Common.{◌≡◌, ℕ, ◌+◌, ◌≤◌, ℤ, true, Option, Some, None, List, [], ◌∷◌, ◌++◌, length, map, refl, sym, ap}
 use Rattle.std.specs.Prelude.{nat_le, ◌&&◌}
 use Rattle.std.specs.Ordering.{int_eq}
 use Rattle.std.proofs.lemmas.Bool.{and_parts, and_from, leb-true, le-leb}
@@ -21,14 +21,13 @@ use Rattle.dossier_text.specs.declared.dossier.Dossier.{Dossier}
 use Rattle.dossier_text.specs.declared.dossier.Word3.{Word3}
 use Rattle.dossier_text.specs.declared.dossier.Word3.TheVariants.{Plan, Infeasible, Open3}
 use Rattle.dossier_text.specs.Ranges.{IsReadable}
-use Rattle.dossier_check.specs.declared.verdict.Reason.{Reason}
 use Rattle.dossier_check.specs.Plans.{plan_of}
 use Rattle.dossier_check.specs.Accepted.{FitsAnswer, IsGivenPlan, IsAccepted}
-use Rattle.dossier_check.specs.NodeReasons.{reason, nodes_reasons, greatest_value}
+use Rattle.dossier_check.specs.NodeReasons.{reason}
 use Rattle.dossier_check.specs.Reasons.{slot_reasons, cut_reasons, first_cut_line, first_node_line, tree_reasons, greatest_of, is_same, fits_answer, claim_reasons, rule_reason, plan_reasons, margin_reasons, given_reasons, dossier_reasons}
 use Rattle.dossier_check.specs.Verdicts.{NothingStandsAgainstAccepted}
-use Rattle.dossier_check.proofs.PassLaws.{nil_of_holds, joined_nil, Passes, all_pass, none_stands}
-use Rattle.dossier_check.proofs.StandLaws.{ArePlaced, tickets, parents, placed, lawful, each_passes}
+use Rattle.dossier_check.proofs.PassLaws.{nil_of_holds, joined_nil, all_pass, none_stands}
+use Rattle.dossier_check.proofs.StandLaws.{tickets, parents, placed, lawful, each_passes}
 use Rattle.dossier_check.proofs.GreatestLaws.{bound_by_test, test_by_bound}
 
 -- ---- the answer

@@ -1,7 +1,6 @@
 -- The test of a split, and that of a box of one point.
-use Rattle.std.proofs.Common.{◌≡◌, ◌≢◌, ℕ, Bool, true, false, List, refl, subst, sym, ◌∙◌}
-use Rattle.std.specs.Prelude.{◌==◌}
-use Rattle.std.proofs.lemmas.Bool.{false_from_ne_true, eqb-true, eq-eqb}
+use Rattle.std.proofs.Common.{◌≡◌, true, false, List, subst}
+use Rattle.std.proofs.lemmas.Bool.{false_from_ne_true}
 use Rattle.std.proofs.lemmas.List.Elements.{recursion_from_All}
 use Rattle.slot_box.specs.declared.slot.Slot.{Slot}
 use Rattle.slot_box.specs.declared.split.Split.{Split}

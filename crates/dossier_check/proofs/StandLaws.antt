@@ -1,7 +1,7 @@
 -- Nothing stands against the nodes of a tree exactly where it is as an accepted dossier's has to be.
-use Rattle.std.proofs.Common.{◌≡◌, ◌≢◌, ℕ, zero, suc, inl, inr, ◌+◌, ◌-◌, ◌*◌, ◌/◌, ◌<◌, ◌≤◌, Bool, true, false, Option, Some, None, List, [], ◌∷◌, length, refl, sym, ap, ◌∙◌, subst, arith}
-use Rattle.std.specs.Prelude.{◌⊎◌, slice_get, option_map}
-use Rattle.std.proofs.lemmas.Bool.{cases_eq, cases_order, both_ways, false_from_ne_true, ne_eqb}
+use Rattle.std.proofs.Common.{◌≡◌, ℕ, zero, suc, inl, inr, ◌+◌, ◌-◌, ◌*◌, ◌/◌, ◌<◌, true, false, Some, List, length, refl, sym, ap, ◌∙◌, subst, arith}
+use Rattle.std.specs.Prelude.{slice_get, option_map}
+use Rattle.std.proofs.lemmas.Bool.{cases_order, both_ways, false_from_ne_true}
 use Rattle.std.proofs.lemmas.Option.{slice_get_within}
 use Rattle.slot_box.specs.declared.node.Leaf.{Leaf as LeafKind}
 use Rattle.slot_box.specs.declared.node.Leaf.TheVariants.{Dead, Void, Dual, Undone, Point}
@@ -15,11 +15,11 @@ use Rattle.slot_box.specs.Splits.{IsLawfulSplit, is_lawful, left_of, right_of}
 use Rattle.slot_box.specs.Trees.{HasBox, root_box, left_part, right_part}
 use Rattle.slot_box.proofs.SplitLaws.{test_from_IsLawfulSplit}
 use Rattle.leaf_value.specs.LeafValue.{IsLawfulLeaf}
-use Rattle.dossier_check.specs.Earlier.{Holder, holder_of, is_held, part_for, box_of}
+use Rattle.dossier_check.specs.Earlier.{Holder, holder_of, is_held, part_for}
 use Rattle.dossier_check.specs.Nodes.{IsInner, IsParentOf, AreTickets, HaveParents, IsLawfulNode, AreLawful}
 use Rattle.dossier_check.proofs.SplitTests.{lawful_by_test, one_by_count, count_by_one}
 use Rattle.dossier_check.proofs.LeafLaws.{IsBox-node}
-use Rattle.dossier_check.proofs.PlaceLaws.{some_there, item_at, child_parity, child_ticket, part_for-left, part_for-right, box_of-child, holders, box_at, IsHeld, held_is, HasParent, parent_of, has_box, held_after}
+use Rattle.dossier_check.proofs.PlaceLaws.{some_there, item_at, child_parity, child_ticket, part_for-left, part_for-right, box_of-child, holders, box_at, IsHeld, held_is, parent_of, has_box, held_after}
 use Rattle.dossier_check.proofs.PassLaws.{LeafPasses, InnerPasses, NodePasses, Passes}
 
 -- a box of a node: it is there, it is what the nodes before it give, and it is a box

@@ -1,5 +1,5 @@
 -- One pass over entries, and over nodes.
-use Rattle.std.proofs.Common.{◌≡◌, ◌≢◌, ℕ, ◌+◌, ◌-◌, ◌*◌, ◌<◌, ◌≤◌, ℤ, Option, Some, None, List, [], ◌∷◌, ◌++◌, length, drop, get_or, refl, sym, ap, ◌∙◌, subst, arith}
+use Rattle.std.proofs.Common.{◌≡◌, ℕ, ◌+◌, ◌<◌, ◌≤◌, ℤ, Option, Some, None, List, [], ◌∷◌, length, drop, get_or, refl, sym, ap, ◌∙◌}
 use Rattle.std.proofs.lemmas.List.{drop_more, drop_all}
 use Rattle.item_lists.specs.Faults.{first_of}
 use Rattle.item_lists.proofs.FaultLaws.{first_of-front, first_of-back}
@@ -11,7 +11,7 @@ use Rattle.dossier_check.specs.declared.met.Met.{Met}
 use Rattle.dossier_check.specs.declared.tree.Frame.{Frame}
 use Rattle.dossier_check.specs.declared.verdict.Reason.{Reason}
 use Rattle.dossier_check.specs.Earlier.{Holder, box_of, with_node}
-use Rattle.dossier_check.specs.NodeReasons.{term_reasons, terms_reasons, node_reasons, nodes_reasons, node_value, greater, greatest_value}
+use Rattle.dossier_check.specs.NodeReasons.{term_reasons, terms_reasons, node_reasons, nodes_reasons, greater, greatest_value}
 use Rattle.dossier_check.specs.Walks.{Keeps, IsMet}
 
 -- the rest of a list begins with the item of the place

@@ -1,6 +1,6 @@
 -- What stands against the nodes of a dossier, each by its line; and the values of its leaves.
-use Rattle.std.specs.Prelude.{ℕ, ◌+◌, ◌^◌, ◌<◌, ◌==◌, ◌&&◌, nat_lt, nat_le, not, int_lt, Bool, if◌then◌else◌, ℤ, List, [], ◌∷◌, ◌++◌, Option, Some, None}
-use Rattle.item_lists.specs.Faults.{unless, each_from}
+use Rattle.std.specs.Prelude.{ℕ, ◌+◌, ◌^◌, ◌==◌, ◌&&◌, nat_lt, nat_le, not, int_lt, if◌then◌else◌, ℤ, List, [], ◌∷◌, ◌++◌, Option, Some, None}
+use Rattle.item_lists.specs.Faults.{unless}
 use Rattle.plant_model.specs.declared.parts.Parts.{Parts}
 use Rattle.slot_box.specs.declared.node.Leaf.{Leaf as LeafKind}
 use Rattle.slot_box.specs.declared.node.Leaf.TheVariants.{Dead, Void, Dual, Undone, Point}

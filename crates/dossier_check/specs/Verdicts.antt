@@ -1,5 +1,5 @@
 -- What is answered of bytes: yes with what the dossier gives, or the first reason for which it is not accepted.
-use Rattle.std.specs.Prelude.{◌≡◌, ℕ, ◌↔◌, List, [], Option, Some, None, option_map, Result, Ok, Err, IfOk, ⊤}
+use Rattle.std.specs.Prelude.{◌≡◌, ℕ, ◌↔◌, List, [], Some, None, option_map, Result, Ok, Err, ⊤}
 use Rattle.item_lists.specs.Faults.{first_of}
 use Rattle.plant_model.specs.declared.parts.Parts.{Parts}
 use Rattle.dossier_text.specs.declared.dossier.Dossier.{Dossier}

@@ -18,6 +18,10 @@ const SPLIT_ONCE: &str =
 const FALLING_TICKETS: &str =
     "crude dossier 1\norder time\nslots 1\nnodes 3\nanswer open\nmargin none\nbound 12\nplan none\ncuts 0\nnode 0 split 0 1 volume 2\nnode 1 split 2 1 ops 1\nnode 2 split 1 1 volume 4\nnode 3 dual 1\nnode 4 open 1\nnode 5 dual 1\nnode 6 point\nend\n";
 
+// What a search writes that divides the box until the best plan is a box of its own.
+const SEVEN_SPLITS: &str =
+    "crude dossier 1\norder time\nslots 1\nnodes 7\nanswer plan\nmargin 12\nbound 12\nplan 1\nop 1 c1 0 2 4\ncuts 0\nnode 0 split 0 1 ops 1\nnode 1 split 1 1 volume 2\nnode 2 dual 1\nnode 3 dual 1\nnode 4 split 2 1 volume 3\nnode 5 dual 1\nnode 6 split 3 1 volume 4\nnode 7 dual 1\nnode 8 split 4 1 start 1\nnode 9 split 5 1 end 1\nnode 10 dual 1\nnode 11 point\nnode 12 split 6 1 end 2\nnode 13 point\nnode 14 point\nend\n";
+
 pub fn one_dual() -> &'static str {
     ONE_DUAL
 }
@@ -28,6 +32,10 @@ pub fn split_once() -> &'static str {
 
 pub fn falling_tickets() -> &'static str {
     FALLING_TICKETS
+}
+
+pub fn seven_splits() -> &'static str {
+    SEVEN_SPLITS
 }
 
 /// The text with another part in the place of the first such part.

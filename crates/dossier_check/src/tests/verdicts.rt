@@ -1,6 +1,6 @@
 use super::cases::{divided_box_cases, single_box_cases};
 use super::plants::one_charge;
-use super::samples::{falling_tickets, one_dual, split_once, with};
+use super::samples::{falling_tickets, one_dual, seven_splits, split_once, with};
 use crate::{Verdict, check};
 use plant_model::Plant;
 use std::alloc::{AllocError, Global};
@@ -74,6 +74,14 @@ fn finds_a_ticket_that_is_held_twice(rt: HostRuntime) -> Result<(), Fail> {
     let plant = one_charge(alloc, 3, 0)?;
     let case = ("split 1 1", "split 2 1", "no 4 12");
     assert!(rt; is_told_with(alloc, &plant, falling_tickets(), case)?);
+    Ok(())
+}
+
+// Of its boxes of one point one is no legal plan, and has no value.
+#[test]
+fn accepts_what_a_search_writes(rt: HostRuntime) -> Result<(), Fail> {
+    let plant = one_charge(rt.alloc(), 3, 0)?;
+    assert!(rt; is_told(rt.alloc(), &plant, seven_splits(), "yes 1 1 12 12")?);
     Ok(())
 }
 

@@ -1,6 +1,5 @@
 use Rattle.std.proofs.Common.{◌≤◌, length, arith, ap, sym, ◌∙◌}
 use Rattle.std.specs.Result.{result_err}
-use Rattle.replay_core.specs.Replays.{Replays}
 use Rattle.dossier_check.proofs.PlanLaws.{short_by_none, broken_line}
 use Rattle.dossier_check.proofs.plan.check_rules.Goals as goal
 

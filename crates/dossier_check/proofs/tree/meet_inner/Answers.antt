@@ -1,7 +1,6 @@
-use Rattle.std.proofs.Common.{◌≡◌, Err, ap, sym, ◌∙◌, subst}
+use Rattle.std.proofs.Common.{Err, ap, sym, ◌∙◌, subst}
 use Rattle.std.specs.Result.{result_err}
 use Rattle.std.proofs.lemmas.Result.{err_from_is_err_and}
-use Rattle.dossier_check.specs.declared.verdict.Refusal.TheVariants.{First}
 use Rattle.dossier_check.specs.Walks.{MeetsInner}
 use Rattle.dossier_check.proofs.MeetLaws.{ticket_refused, split_refused, split_passed}
 use Rattle.dossier_check.proofs.tree.meet_inner.Goals as goal

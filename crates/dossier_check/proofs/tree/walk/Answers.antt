@@ -1,4 +1,4 @@
-use Rattle.std.proofs.Common.{◌≡◌, Err, [], ap, sym, ◌∙◌, subst, arith}
+use Rattle.std.proofs.Common.{Err, [], ap, sym, ◌∙◌, subst}
 use Rattle.std.proofs.lemmas.Result.{err_from_is_err_and}
 use Rattle.dossier_check.specs.NodeReasons.{nodes_reasons}
 use Rattle.dossier_check.specs.Verdicts.{Tests}
