@@ -1,4 +1,15 @@
-//! Decimals, names, words and lines as bytes.
+//! Decimals, names, words and lines as bytes: one definition of each, with its reader and its printer.
+//!
+//! Plans and dossiers are lines of words with single blanks between them. A word is a fixed one, a name, a
+//! decimal with or without a sign, or made of decimals with marks between them. Plants share the names, and
+//! the command line the decimals. To the crates above this crate promises that a reader finds a number
+//! exactly where it is in range and the bytes are its decimal, that [`Words`] goes over the words of a line
+//! one by one, and that a printer adds just the text of its value at the end, or nothing where memory runs
+//! out. By [`decimal_laws`] numbers of one decimal are one number.
+//!
+//! Begin with `decimal` after `specs/Decimal`, and `name` after `specs/Name`. What a line and its words are
+//! is in `specs/Words`, and what is read of them, word by word or within a word, in `specs/Reading`; `words`
+//! does that reading, and `printing` has the writers.
 #![tactic(auto)]
 
 mod decimal;
