@@ -27,7 +27,7 @@ mod writing;
 pub use dossier::{CutLine, CutLines, Dossier, Word3};
 pub use fault::DossierFault;
 pub use reading::read_dossier;
-pub use writing::write_dossier;
+pub use writing::{write_claim, write_dossier};
 
 #[cfg(test)]
 mod tests;

@@ -57,13 +57,19 @@ fn write_sizes(out: &mut Vec<u8>, dossier: &Dossier) -> Result<(), AllocError>
     write_count(out, b"nodes", u64::from(dossier.nodes))
 }
 
+/// Writes what is claimed, in three lines: the answer, the margin and the bound.
 #[tactic(auto, unfolding(crate::specs::Text::claim_lines))]
-fn write_claim(out: &mut Vec<u8>, dossier: &Dossier) -> Result<(), AllocError>
-    ensures { OnOk result (out.new.items ≡ out.old.items ++ text_of (claim_lines dossier.now.answer dossier.now.margin dossier.now.bound)) }
+pub fn write_claim(
+    out: &mut Vec<u8>,
+    answer: Word3,
+    margin: Option<i64>,
+    bound: Option<i64>,
+) -> Result<(), AllocError>
+    ensures { OnOk result (out.new.items ≡ out.old.items ++ text_of (claim_lines answer margin bound)) }
 {
-    write_answer(out, dossier.answer)?;
-    write_claimed(out, b"margin", dossier.margin)?;
-    write_claimed(out, b"bound", dossier.bound)
+    write_answer(out, answer)?;
+    write_claimed(out, b"margin", margin)?;
+    write_claimed(out, b"bound", bound)
 }
 
 fn write_op_lines(out: &mut Vec<u8>, lines: &[OpLine]) -> Result<(), AllocError>
@@ -107,7 +113,7 @@ pub fn write_dossier(alloc: Global, dossier: &Dossier) -> Result<Vec<u8>, AllocE
     let mut out = Vec::new(alloc);
     write_format(&mut out)?;
     write_sizes(&mut out, dossier)?;
-    write_claim(&mut out, dossier)?;
+    write_claim(&mut out, dossier.answer, dossier.margin, dossier.bound)?;
     write_plan(&mut out, &dossier.plan)?;
     write_cut_lines(&mut out, dossier.cuts.as_slice())?;
     write_nodes(&mut out, dossier.tree.as_slice())?;
