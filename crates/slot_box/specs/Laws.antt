@@ -1,5 +1,5 @@
 -- What holds of every box, every root box and every lawful split.
-use Rattle.std.specs.Prelude.{◌≡◌, ℕ, ◌+◌, ◌<◌, ◌≤◌, List, Option}
+use Rattle.std.specs.Prelude.{◌≡◌, ℕ, ◌+◌, ◌<◌, ◌≤◌, List, length, Option}
 use Rattle.std.specs.Int.{bit_at}
 use Rattle.slot_box.specs.declared.slot.Slot.{Slot}
 use Rattle.slot_box.specs.declared.node.Node.{Node}
@@ -8,7 +8,7 @@ use Rattle.slot_box.specs.Boxes.{IsBox, IsPoint, HasOnePoint, only_point, points
 use Rattle.slot_box.specs.Entries.{Entry, idle, runs, bit_of, LiesIn}
 use Rattle.slot_box.specs.Slots.{live_of}
 use Rattle.slot_box.specs.Splits.{IsLawfulSplit, IsPartition, left_of, right_of}
-use Rattle.slot_box.specs.Trees.{IsSearchTree, InLeaf}
+use Rattle.slot_box.specs.Trees.{IsSearchTree, InLeaf, Tree, leaf_boxes, IsLawfulTree}
 
 -- ---- boxes
 
@@ -69,3 +69,8 @@ abbrev pub LeavesCoverRoots : Type 0
 LeavesCoverRoots =
     (root : List Slot) (node_at : ℕ → Option Node) → IsBox root → IsSearchTree root node_at
     → (point : List Entry) → IsPoint root point → InLeaf root node_at point
+
+-- a lawful tree over a box has at most as many leaves as the box has points
+abbrev pub LeavesAreAtMostPoints : Type 0
+LeavesAreAtMostPoints =
+    (box : List Slot) (tree : Tree) → IsBox box → IsLawfulTree box tree → length (leaf_boxes box tree) ≤ points_of box

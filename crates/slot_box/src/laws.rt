@@ -1,4 +1,4 @@
-ghost use Rattle.slot_box.specs.Laws.{EntriesAreLive, OnlyPointsArePoints, RootsAreBoxes, RootSlotsMayIdle, RootSlotsMayRun, PartsSharePoints, PartsAreBoxes, PartsShareCounts, LeavesCoverRoots};
+ghost use Rattle.slot_box.specs.Laws.{EntriesAreLive, OnlyPointsArePoints, RootsAreBoxes, RootSlotsMayIdle, RootSlotsMayRun, PartsSharePoints, PartsAreBoxes, PartsShareCounts, LeavesCoverRoots, LeavesAreAtMostPoints};
 
 /// The laws of boxes and root boxes, for whoever reasons about them: a call does nothing and brings them.
 pub fn box_laws()
@@ -16,7 +16,8 @@ pub fn split_laws()
     ensures counts { PartsShareCounts }
 {}
 
-/// The law of search trees: a call does nothing and brings it.
+/// The laws of search trees: a call does nothing and brings them.
 pub fn tree_laws()
-    ensures { LeavesCoverRoots }
+    ensures cover { LeavesCoverRoots }
+    ensures few { LeavesAreAtMostPoints }
 {}

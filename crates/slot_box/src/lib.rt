@@ -6,8 +6,9 @@
 //!
 //! To the crates above this crate promises that a box always has a point, that `points` is how many it
 //! has, and that a split, where it is lawful, gives each point of the box to exactly one of two boxes,
-//! neither of them empty. So the leaves of a search tree have all points of its root between them.
-//! [`box_laws`], [`split_laws`] and [`tree_laws`] say so of the definitions alone.
+//! neither of them empty. So the leaves of a search tree have all points of its root between them, and a
+//! lawful tree has no more leaves than its box has points. [`box_laws`], [`split_laws`] and [`tree_laws`] say
+//! so of the definitions alone.
 //!
 //! Begin with `boxes`, after `specs/Slots`, `specs/Entries` and `specs/Boxes`; `split` and
 //! `specs/Splits` have the two parts. `node` and `specs/Trees` have the search tree and which box each of

@@ -1,5 +1,8 @@
-use Rattle.slot_box.proofs.TreeLaws.{covered}
+use Rattle.slot_box.proofs.TreeLaws.{covered, length-leaf_boxes, leaves_at_most_points}
 use Rattle.slot_box.proofs.laws.tree_laws.Goals as goal
 
 pub returns : goal.returns
-returns c = covered
+returns c = record {
+  cover = covered;
+  few = λ box tree is lawful. rw (length-leaf_boxes box tree) (leaves_at_most_points box tree is lawful);
+}
