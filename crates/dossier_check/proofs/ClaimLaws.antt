@@ -1,6 +1,6 @@
 -- What an accepted dossier claims is true.
 use Rattle.std.proofs.Common.{◌≡◌, ℕ, ◌≤◌, ℤ, ◌≤ℤ◌, true, Option, Some, None, List, length, refl, subst, arith}
-use Rattle.std.specs.Prelude.{IfSome}
+use Rattle.std.specs.Prelude.{IfSome, option_map}
 use Rattle.std.proofs.lemmas.Bool.{OnTrue_from}
 use Rattle.std.proofs.lemmas.Int.{ints}
 use Rattle.plant_model.specs.declared.parts.Parts.{Parts}
@@ -16,14 +16,15 @@ use Rattle.slot_box.specs.Laws.{OnlyPointsArePoints, PartsAreBoxes, LeavesCoverR
 use Rattle.leaf_value.specs.PlainValue.{RootBoxesAreBoxes, root_box_of}
 use Rattle.leaf_value.specs.Forms.{LegalPlansHaveForms}
 use Rattle.leaf_value.specs.LeafValue.{PlainValuesBound}
+use Rattle.dossier_check.specs.Plans.{plan_of}
 use Rattle.dossier_check.specs.Nodes.{IsBoundOf}
 use Rattle.dossier_check.specs.Accepted.{FitsAnswer, IsGivenPlan}
-use Rattle.dossier_check.specs.Claims.{plan_claim, is_infeasible, AcceptedClaimsAreTrue}
+use Rattle.dossier_check.specs.Claims.{planned, is_infeasible, AcceptedClaimsAreTrue}
 use Rattle.dossier_check.proofs.LeafLaws.{LeafReaches, some_leaf_reaches}
 
 -- the plan that is claimed is the plan that is given
 plan_is_true : (parts : Parts) (n : ℕ) (margin : Option ℤ) (plan : Option (List OpLine)) → IsGivenPlan parts n margin plan →
-    IfSome (plan_claim parts margin plan) (λ (given : PlanClaim). IsPlanOf parts n given.margin given.steps)
+    IfSome (planned (option_map (plan_of parts) plan) margin) (λ (given : PlanClaim). IsPlanOf parts n given.margin given.steps)
 plan_is_true parts n (Some margin) (Some lines) given = given
 plan_is_true parts n (Some margin) None given = tt
 plan_is_true parts n None (Some lines) given = tt

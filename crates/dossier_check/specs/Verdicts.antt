@@ -1,7 +1,8 @@
 -- What is answered of bytes: yes with what the dossier gives, or the first reason for which it is not accepted.
-use Rattle.std.specs.Prelude.{◌≡◌, ℕ, ◌↔◌, List, [], Some, None, option_map, Result, Ok, Err, ⊤}
+use Rattle.std.specs.Prelude.{◌≡◌, ℕ, ◌↔◌, List, [], Some, None, Result, Ok, Err, ⊤}
 use Rattle.item_lists.specs.Faults.{first_of}
 use Rattle.plant_model.specs.declared.parts.Parts.{Parts}
+use Rattle.replay_core.specs.Claim.{HasClaim}
 use Rattle.dossier_text.specs.declared.dossier.Dossier.{Dossier}
 use Rattle.dossier_text.specs.Ranges.{IsReadable}
 use Rattle.dossier_text.specs.Text.{dossier_bytes}
@@ -11,14 +12,10 @@ use Rattle.dossier_check.specs.declared.verdict.Refusal.{Refusal}
 use Rattle.dossier_check.specs.declared.verdict.Refusal.TheVariants.{First, Memory}
 use Rattle.dossier_check.specs.declared.verdict.Verdict.{Verdict}
 use Rattle.dossier_check.specs.declared.verdict.Verdict.TheVariants.{Yes, No}
-use Rattle.dossier_check.specs.Plans.{plan_of}
 use Rattle.dossier_check.specs.Accepted.{IsAccepted}
+use Rattle.dossier_check.specs.Claims.{told_of, said_by}
 use Rattle.dossier_check.specs.NodeReasons.{reason}
 use Rattle.dossier_check.specs.Reasons.{dossier_reasons, reasons_of}
-
--- what a dossier gives: its slots, its plan with the margin, and its bound
-abbrev pub told_of : Parts → Dossier → Claim
-told_of parts dossier = record { slots = dossier.slots; plan = option_map (plan_of parts) dossier.plan; margin = dossier.margin; bound = dossier.bound }
 
 -- the bytes are the text of an accepted dossier, which gives this
 pub record IsTold (parts : Parts) (bytes : List ℕ) (claim : Claim) : Type 0 where
@@ -41,6 +38,11 @@ IsVerdictOn parts dossier (No number line) = first_of (dossier_reasons parts dos
 -- the text of an accepted dossier is given yes
 abbrev pub IsYesOfAccepted : Parts → List ℕ → Verdict → Type 0
 IsYesOfAccepted parts bytes verdict = (dossier : Dossier) → IsReadable dossier → bytes ≡ dossier_bytes dossier → IsAccepted parts dossier → verdict ≡ Yes (told_of parts dossier)
+
+-- a yes claims only what is true of the plant, in the words of legal plans and margins alone, whoever wrote the bytes
+abbrev pub ClaimsTruth : Parts → Verdict → Type 0
+ClaimsTruth parts (Yes claim) = HasClaim parts claim.slots (said_by claim)
+ClaimsTruth parts (No number line) = ⊤
 
 -- nothing stands against a dossier that can be read exactly where it is accepted
 abbrev pub NothingStandsAgainstAccepted : Parts → Type 0

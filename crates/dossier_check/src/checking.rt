@@ -3,8 +3,9 @@ ghost use Rattle.std.specs.Result.{result_err};
 ghost use Rattle.item_lists.specs.Faults.{first_of};
 ghost use Rattle.dossier_text.specs.Ranges.{IsReadable};
 ghost use Rattle.dossier_text.specs.Reading.{plan_length};
+ghost use Rattle.dossier_check.specs.Claims.{told_of};
 ghost use Rattle.dossier_check.specs.Reasons.{slot_reasons, cut_reasons, first_cut_line, first_node_line, is_same, fits_answer, claim_reasons, dossier_reasons};
-ghost use Rattle.dossier_check.specs.Verdicts.{Tests, told_of, IsVerdict, IsVerdictOn, IsYesOfAccepted};
+ghost use Rattle.dossier_check.specs.Verdicts.{Tests, IsVerdict, IsVerdictOn, IsYesOfAccepted};
 
 use crate::laws::reason_laws;
 use crate::plan::check_plan;
@@ -112,6 +113,7 @@ fn check_dossier(alloc: Global, plant: &Plant, dossier: &Dossier) -> Result<Clai
     let plan = check_plan(alloc, plant, dossier.slots, dossier.margin, &dossier.plan)?;
     Ok(Claim {
         slots: dossier.slots,
+        answer: dossier.answer,
         plan,
         margin: dossier.margin,
         bound: dossier.bound,

@@ -1,6 +1,7 @@
 ghost use Rattle.std.specs.Prelude.{◌≡◌};
 ghost use Rattle.dossier_check.specs.declared.verdict.Refusal.TheVariants.{First, Memory};
 
+use dossier_text::Word3;
 use replay_core::Word;
 use std::alloc::AllocError;
 
@@ -16,6 +17,8 @@ pub(crate) struct Reason {
 pub struct Claim {
     /// The most operations of the plans that it speaks of.
     pub slots: u32,
+    /// What it says of plans: one is given, there is none, or it is open.
+    pub answer: Word3,
     pub plan: Option<Word>,
     /// The plan's, in money.
     pub margin: Option<i64>,
