@@ -22,8 +22,8 @@ use Rattle.plant_text.specs.declared.fault.PlantTextFault.TheVariants.{Shape}
 use Rattle.plant_text.specs.Names.{section_name, key_name}
 use Rattle.plant_text.specs.Kinds.{whole_number, whole_numbers, pair, pairs}
 
--- what a step of the walk gives: a value, or the fault that ends the walk
 infixl 10 ◌>>=◌
+-- a step of the walk, and then what follows from its value; the first fault ends the walk
 abbrev pub ◌>>=◌ : {A B : Type 0} → Result A PlantTextFault → (A → Result B PlantTextFault) → Result B PlantTextFault
 (Ok x) >>= f = f x
 (Err fault) >>= f = Err fault
