@@ -5,9 +5,9 @@ ghost use Rattle.dossier_text.specs.Ranges.{IsReadable};
 ghost use Rattle.dossier_text.specs.Reading.{plan_length};
 ghost use Rattle.dossier_check.specs.Claims.{told_of};
 ghost use Rattle.dossier_check.specs.Reasons.{slot_reasons, cut_reasons, first_cut_line, first_node_line, is_same, fits_answer, claim_reasons, dossier_reasons};
-ghost use Rattle.dossier_check.specs.Verdicts.{Tests, IsVerdict, IsVerdictOn, IsYesOfAccepted};
+ghost use Rattle.dossier_check.specs.Verdicts.{Tests, IsVerdict, IsVerdictOn, IsYesOfAccepted, ClaimsTruth};
 
-use crate::laws::reason_laws;
+use crate::laws::{accepted_claim_laws, reason_laws};
 use crate::plan::check_plan;
 use crate::tree::check_tree;
 use crate::verdict::{Claim, Reason, Refusal, Verdict};
@@ -121,11 +121,13 @@ fn check_dossier(alloc: Global, plant: &Plant, dossier: &Dossier) -> Result<Clai
 }
 
 /// The verdict on the bytes of a dossier for the plant: yes, with what it gives, exactly where it is
-/// accepted, and otherwise no, with the first reason and its line.
+/// accepted, and otherwise no, with the first reason and its line. What a yes says of the plant is true.
 pub fn check(alloc: Global, plant: &Plant, bytes: &[u8]) -> Result<Verdict, AllocError>
     ensures verdict { IfOk result (IsVerdict plant.now bytes.now) }
     ensures accepted { IfOk result (IsYesOfAccepted plant.now bytes.now) }
+    ensures claims { IfOk result (ClaimsTruth plant.now) }
 {
+    accepted_claim_laws(plant);
     reason_laws(plant);
     match read_dossier(alloc, bytes) {
         Ok(dossier) => verdict_on(alloc, plant, &dossier),

@@ -5,11 +5,12 @@
 //! earns what it says.
 //!
 //! To the crates above this crate promises that [`check`] says yes exactly where bytes are the text of an
-//! accepted dossier, with what it gives, and otherwise no, with the first reason and its line; and, by
-//! [`accepted_claim_laws`], that whatever an accepted dossier claims is true, whoever wrote it. The reasons
-//! are a definition of their own, which lists all that stands against a dossier in the order of the tests;
-//! [`reason_laws`] says that nothing does exactly where it is accepted. So far no cut is valid, no row has a
-//! name, and no leaf is dead or void.
+//! accepted dossier, with what it gives, and otherwise no, with the first reason and its line; and that what a
+//! yes says of its plant is true, in the words of legal plans and their margins alone, whoever wrote the
+//! bytes. [`accepted_claim_laws`] says the same of each accepted dossier. The reasons are a definition of their
+//! own, which lists all that stands against a dossier in the order of the tests; [`reason_laws`] says that
+//! nothing does exactly where it is accepted. So far no cut is valid, no row has a name, and no leaf is dead
+//! or void.
 //!
 //! Begin with `specs/Accepted`, from there go to `specs/Nodes` and `specs/Claims`; then, for the first reason,
 //! with `specs/Reasons` and `specs/NodeReasons`, and for the answer with `specs/Verdicts`. In the code
