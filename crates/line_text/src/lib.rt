@@ -24,3 +24,6 @@ pub use printing::{
     push_word,
 };
 pub use words::{Words, read_before, split_at_mark};
+
+#[cfg(test)]
+mod tests;
