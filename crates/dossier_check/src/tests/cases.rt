@@ -14,7 +14,7 @@ const SINGLE_BOX: &[Case] = &[
     ("dual 1", "point", "no 8 11"),
     ("dual 1", "dual 0", "no 9 11"),
     ("dual 1", "open 4294967297", "no 9 11"),
-    ("dual 1", "open 4294967296", "yes 1 1 12 12"),
+    ("dual 1", "open 4294967296", "yes plan 1 1 12 12"),
     ("dual 1", "dual 1 1.1.0.0.0=4294967297", "no 9 11"),
     (
         "dual 1",
@@ -68,7 +68,7 @@ const DIVIDED_BOX: &[Case] = &[
     ("node 1 dual 1", "node 1 point", "no 8 12"),
     ("node 2 point", "node 2 dead 1", "no 7 13"),
     ("node 1 dual 1", "node 1 void", "no 14 12"),
-    ("node 2 point", "node 2 open 1", "yes 1 1 12 12"),
+    ("node 2 point", "node 2 open 1", "yes plan 1 1 12 12"),
 ];
 
 pub fn single_box_cases() -> &'static [Case] {

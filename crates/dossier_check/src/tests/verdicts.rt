@@ -2,9 +2,19 @@ use super::cases::{divided_box_cases, single_box_cases};
 use super::plants::one_charge;
 use super::samples::{falling_tickets, one_dual, seven_splits, split_once, with};
 use crate::{Verdict, check};
+use dossier_text::Word3;
 use plant_model::Plant;
 use std::alloc::{AllocError, Global};
 use std::test::Fail;
+
+/// The word of an answer.
+fn word(answer: Word3) -> &'static str {
+    match answer {
+        Word3::Plan => "plan",
+        Word3::Infeasible => "infeasible",
+        Word3::Open3 => "open",
+    }
+}
 
 /// The verdict in words.
 fn told(alloc: Global, plant: &Plant, file: &str) -> Result<String, AllocError> {
@@ -13,7 +23,8 @@ fn told(alloc: Global, plant: &Plant, file: &str) -> Result<String, AllocError> 
             let steps = claim.plan.map_or(0, |plan| plan.as_slice().len());
             let margin = claim.margin.unwrap_or(-1);
             let bound = claim.bound.unwrap_or(-1);
-            format!(in alloc; "yes {} {steps} {margin} {bound}", claim.slots)
+            let answer = word(claim.answer);
+            format!(in alloc; "yes {answer} {} {steps} {margin} {bound}", claim.slots)
         }
         Verdict::No { reason, line } => format!(in alloc; "no {reason} {line}"),
     }
@@ -35,13 +46,37 @@ fn is_told_with(
     is_told(alloc, plant, changed.as_str(), answer)
 }
 
+/// Whether the file that ends before this line is refused there.
+fn misses_line(alloc: Global, plant: &Plant, file: &str, line: u32) -> Result<bool, Fail> {
+    let lines = (line as usize).saturating_sub(1);
+    let mut start = String::new(alloc);
+    for part in file.split_inclusive('\n').take(lines) {
+        start.push_str(part)?;
+    }
+    let answer = format!(in alloc; "no 1 {line}")?;
+    is_told(alloc, plant, start.as_str(), answer.as_str())
+}
+
 #[test]
 fn accepts_what_is_so(rt: HostRuntime) -> Result<(), Fail> {
     let alloc = rt.alloc();
     let plant = one_charge(alloc, 3, 0)?;
-    assert!(rt; is_told(alloc, &plant, one_dual(), "yes 1 1 12 12")?);
-    assert!(rt; is_told(alloc, &plant, split_once(), "yes 1 1 12 12")?);
-    assert!(rt; is_told(alloc, &plant, falling_tickets(), "yes 1 0 -1 12")?);
+    assert!(rt; is_told(alloc, &plant, one_dual(), "yes plan 1 1 12 12")?);
+    assert!(rt; is_told(alloc, &plant, split_once(), "yes plan 1 1 12 12")?);
+    assert!(rt; is_told(alloc, &plant, falling_tickets(), "yes open 1 0 -1 12")?);
+    Ok(())
+}
+
+#[test]
+fn misses_the_next_line(rt: HostRuntime) -> Result<(), Fail> {
+    let alloc = rt.alloc();
+    let plant = one_charge(alloc, 3, 0)?;
+    for line in 1..=12 {
+        assert!(rt;
+            misses_line(alloc, &plant, one_dual(), line)?,
+            "line {line}"
+        );
+    }
     Ok(())
 }
 
@@ -81,7 +116,7 @@ fn finds_a_ticket_that_is_held_twice(rt: HostRuntime) -> Result<(), Fail> {
 #[test]
 fn accepts_what_a_search_writes(rt: HostRuntime) -> Result<(), Fail> {
     let plant = one_charge(rt.alloc(), 3, 0)?;
-    assert!(rt; is_told(rt.alloc(), &plant, seven_splits(), "yes 1 1 12 12")?);
+    assert!(rt; is_told(rt.alloc(), &plant, seven_splits(), "yes plan 1 1 12 12")?);
     Ok(())
 }
 
