@@ -14,8 +14,8 @@ use Rattle.slot_box.specs.Boxes.{points_of}
 use Rattle.slot_box.specs.Laws.{SharesCount}
 use Rattle.slot_box.specs.Splits.{IsLawfulSplit, left_of, right_of}
 use Rattle.slot_box.specs.Trees.{HasBox, root_box, left_part, right_part}
-use Rattle.dossier_check.specs.Nodes.{IsInner, IsLeaf, IsParentOf, AreTickets, HaveParents}
-use Rattle.box_search.specs.Growing.{IsGrown, IsBoxAt, IsDivided, open_leaf, inner_of, inner_count, spare_of, spare_points, tree_divided, boxes_divided}
+use Rattle.dossier_check.specs.Nodes.{IsInner, IsLeaf, inner_of, inner_count, IsParentOf, AreTickets, HaveParents}
+use Rattle.box_search.specs.Growing.{IsGrown, IsBoxAt, IsDivided, open_leaf, spare_of, spare_points, tree_divided, boxes_divided}
 use Rattle.box_search.proofs.ListLaws.{get-set_same, get-set_other, get-append_left, get-append_right}
 
 -- ---- boxes of nodes

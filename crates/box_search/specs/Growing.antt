@@ -1,5 +1,5 @@
 -- A search tree as it grows: each of its nodes has an id, by its place in the list, and a box.
-use Rattle.std.specs.Prelude.{◌≡◌, ℕ, ◌+◌, ◌-◌, ◌*◌, sum_by, List, [], ◌∷◌, ◌++◌, length, slice_get, slice_set, Some}
+use Rattle.std.specs.Prelude.{◌≡◌, ℕ, ◌+◌, ◌-◌, ◌*◌, List, [], ◌∷◌, ◌++◌, length, slice_get, slice_set, Some}
 use Rattle.slot_box.specs.declared.node.Leaf.{Leaf as LeafKind}
 use Rattle.slot_box.specs.declared.node.Leaf.TheVariants.{Undone}
 use Rattle.slot_box.specs.declared.node.Node.{Node}
@@ -9,7 +9,7 @@ use Rattle.slot_box.specs.declared.split.Split.{Split}
 use Rattle.slot_box.specs.Boxes.{points_of}
 use Rattle.slot_box.specs.Splits.{IsLawfulSplit, left_of, right_of}
 use Rattle.slot_box.specs.Trees.{HasBox}
-use Rattle.dossier_check.specs.Nodes.{IsInner, AreTickets, HaveParents}
+use Rattle.dossier_check.specs.Nodes.{IsInner, inner_count, AreTickets, HaveParents}
 
 -- a leaf that is left open, without entries
 abbrev pub open_leaf : LeafKind
@@ -24,15 +24,6 @@ pub record IsDivided (boxes : List (List Slot)) (ticket : ℕ) (split : Split) (
   pub lawful : IsLawfulSplit box split
   pub left : IsBoxAt boxes (2 * ticket + 1) (left_of box split)
   pub right : IsBoxAt boxes (2 * ticket + 2) (right_of box split)
-
--- one for an inner node
-abbrev pub inner_of : Node → ℕ
-inner_of (Inner ticket split) = 1
-inner_of (Leaf leaf) = 0
-
--- how many nodes are inner
-abbrev pub inner_count : List Node → ℕ
-inner_count tree = sum_by inner_of tree
 
 -- how many points the box of a node has beside one, where it is a leaf
 abbrev pub spare_of : Node → List Slot → ℕ

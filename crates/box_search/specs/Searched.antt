@@ -11,9 +11,8 @@ use Rattle.slot_box.specs.Trees.{HasBox}
 use Rattle.replay_core.specs.Claim.{IsPlanOf}
 use Rattle.leaf_value.specs.PlainValue.{root_box_of}
 use Rattle.dossier_text.specs.Ranges.{IsNode}
-use Rattle.dossier_check.specs.Nodes.{IsLeaf, AreTickets, HaveParents, AreLawful, IsLeafValue, IsBoundOf}
+use Rattle.dossier_check.specs.Nodes.{IsLeaf, inner_count, AreTickets, HaveParents, AreLawful, IsLeafValue, IsBoundOf}
 use Rattle.box_search.specs.declared.search.Found.{Found}
-use Rattle.box_search.specs.Growing.{inner_count}
 use Rattle.box_search.specs.Searching.{IsClosed, best_margin}
 
 -- the tree is one that a dossier may give, with at most the budget's number of inner nodes; the bound is the greatest value of

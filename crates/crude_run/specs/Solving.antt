@@ -15,10 +15,9 @@ use Rattle.dossier_text.specs.declared.dossier.Word3.{Word3}
 use Rattle.dossier_text.specs.declared.dossier.Word3.TheVariants.{Plan, Infeasible, Open3}
 use Rattle.dossier_text.specs.Ranges.{IsReadable}
 use Rattle.dossier_text.specs.Text.{dossier_bytes}
-use Rattle.dossier_check.specs.Nodes.{IsLeaf, NoLeafHasValue}
+use Rattle.dossier_check.specs.Nodes.{IsLeaf, inner_count, NoLeafHasValue}
 use Rattle.dossier_check.specs.Accepted.{IsAccepted}
 use Rattle.dossier_check.specs.Claims.{claim_of}
-use Rattle.box_search.specs.Growing.{inner_count}
 use Rattle.crude_run.specs.declared.answer.Answer.{Answer}
 use Rattle.crude_run.specs.declared.status.TheConstants.{PLAN_FOUND, INFEASIBLE, NONE_FOUND}
 

@@ -1,5 +1,5 @@
 -- What the nodes of a dossier's search tree have to be, and which values its leaves have.
-use Rattle.std.specs.Prelude.{◌≡◌, ◌⊎◌, ℕ, ◌+◌, ◌*◌, ◌<◌, ℤ, ◌≤ℤ◌, List, length, slice_get, Option, Some, None}
+use Rattle.std.specs.Prelude.{◌≡◌, ◌⊎◌, ℕ, ◌+◌, ◌*◌, ◌<◌, ℤ, ◌≤ℤ◌, sum_by, List, length, slice_get, Option, Some, None}
 use Rattle.plant_model.specs.declared.parts.Parts.{Parts}
 use Rattle.slot_box.specs.declared.node.Leaf.{Leaf as LeafKind}
 use Rattle.slot_box.specs.declared.node.Node.{Node}
@@ -17,6 +17,15 @@ IsInner tree id ticket split = slice_get tree id ≡ Some (Inner ticket split)
 -- the node of this id is this leaf
 abbrev pub IsLeaf : List Node → ℕ → LeafKind → Type 0
 IsLeaf tree id leaf = slice_get tree id ≡ Some (Leaf leaf)
+
+-- one for an inner node
+abbrev pub inner_of : Node → ℕ
+inner_of (Inner ticket split) = 1
+inner_of (Leaf leaf) = 0
+
+-- how many nodes are inner
+abbrev pub inner_count : List Node → ℕ
+inner_count tree = sum_by inner_of tree
 
 -- each ticket is one of the first t, and no two nodes hold the same
 pub record AreTickets (t : ℕ) (tree : List Node) : Type 0 where
