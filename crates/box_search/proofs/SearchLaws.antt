@@ -23,11 +23,11 @@ use Rattle.box_search.specs.declared.search.Pending.{Pending}
 use Rattle.box_search.specs.declared.search.Search.{Search}
 use Rattle.box_search.specs.Growing.{open_leaf, tree_divided, boxes_divided}
 use Rattle.box_search.specs.Searching.{IsSettled, IsPending, IsWaiting, IsSearch, best_margin}
-use Rattle.box_search.specs.Values.{IsAtMost, IsGreaterOf}
+use Rattle.box_search.specs.Values.{IsAtMost}
 use Rattle.box_search.proofs.DivideLaws.{ArePartsOf, IsUnderway-divided}
 use Rattle.box_search.proofs.GrowthLaws.{IsGrown-root, left_there, right_there, added}
 use Rattle.box_search.proofs.SettleLaws.{last_waits, IsUnderway-settled}
-use Rattle.box_search.proofs.ValueLaws.{IsAtMost-refl}
+use Rattle.box_search.proofs.ValueLaws.{IsGreaterOf, IsAtMost-refl}
 
 -- ---- numbers of nodes
 

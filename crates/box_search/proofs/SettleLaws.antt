@@ -16,10 +16,10 @@ use Rattle.dossier_check.specs.Nodes.{IsLeaf}
 use Rattle.box_search.specs.declared.search.Pending.{Pending}
 use Rattle.box_search.specs.Growing.{IsBoxAt, open_leaf}
 use Rattle.box_search.specs.Searching.{IsClosed, IsSettled, IsPending, IsWaiting, AreApart, IsFoundValue, IsUnderway}
-use Rattle.box_search.specs.Values.{IsAtMost, IsGreaterOf}
+use Rattle.box_search.specs.Values.{IsAtMost}
 use Rattle.box_search.proofs.GrowthLaws.{IsGrown-settled}
 use Rattle.box_search.proofs.ListLaws.{get-set_same, get-set_other}
-use Rattle.box_search.proofs.ValueLaws.{IsAtMost-trans}
+use Rattle.box_search.proofs.ValueLaws.{IsGreaterOf, IsAtMost-trans}
 use Rattle.box_search.proofs.WaitingLaws.{All-front, IsWaiting-push, IsWaiting-front, IsWaiting-back, AreApart-front, still_waiting}
 
 -- a leaf that is settled stays so as the best margin and the bound rise

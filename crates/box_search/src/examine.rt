@@ -3,29 +3,19 @@ ghost use Rattle.slot_box.specs.declared.node.Node.TheVariants as nodes;
 ghost use Rattle.slot_box.specs.Boxes.{HasOnePoint, points_of};
 ghost use Rattle.slot_box.specs.Splits.{IsLawfulSplit};
 ghost use Rattle.dossier_text.specs.Ranges.{IsNode};
+ghost use Rattle.leaf_value.specs.LeafValue.{greater};
 ghost use Rattle.leaf_value.specs.PlainValue.{plain_value_of};
 ghost use Rattle.box_search.specs.Growing.{open_leaf, tree_divided};
 ghost use Rattle.box_search.specs.Searching.{IsSearch, best_margin};
-ghost use Rattle.box_search.specs.Values.{IsAtMost, IsGreaterOf};
+ghost use Rattle.box_search.specs.Values.{IsAtMost};
 
 use crate::search::{Pending, Search, open_leaf};
 use item_lists::Items;
-use leaf_value::{Planned, plain_value, point_value};
+use leaf_value::{Planned, greater, plain_value, point_value};
 use outer_edge::Gate;
 use plant_model::Plant;
 use slot_box::{Leaf, Node, NodeList, SlotBox, Split, SplitKind, split_laws};
 use std::alloc::{AllocError, Global};
-
-/// The greater of two values that may be none.
-fn greater(a: Option<i64>, b: Option<i64>) -> Option<i64>
-    ensures { IsGreaterOf a b result }
-{
-    match (a, b) {
-        (Some(x), Some(y)) => Some(if x < y { y } else { x }),
-        (None, _) => b,
-        (_, None) => a,
-    }
-}
 
 /// The margin of a plan, if there is one.
 fn margin(best: &Option<Planned>) -> Option<i64>
@@ -49,7 +39,7 @@ fn is_beaten(value: i64, best: Option<i64>) -> bool
 
 /// The plan of the greater margin.
 fn better(best: Option<Planned>, found: Option<Planned>) -> Option<Planned>
-    ensures margin { IsGreaterOf (best_margin best) (best_margin found) (best_margin result) }
+    ensures margin { best_margin result ≡ greater (best_margin best) (best_margin found) }
     ensures one { (result ≡ best) ⊎ (result ≡ found) }
 {
     match (best, found) {
@@ -62,7 +52,7 @@ fn better(best: Option<Planned>, found: Option<Planned>) -> Option<Planned>
 /// Makes the node a leaf, and keeps its value in the bound.
 fn settle(search: &mut Search, id: u32, leaf: Leaf, value: Option<i64>)
     requires { id < length search.old.tree }
-    ensures bound { IsGreaterOf search.old.bound value search.new.bound }
+    ensures bound { search.new.bound ≡ greater search.old.bound value }
     ensures rest { search.new ≡ record search.old { tree = slice_set search.old.tree id (nodes.Leaf leaf); bound = search.new.bound } }
 {
     set_node(search.tree.as_mut_slice(), id, Node::Leaf(leaf));

@@ -8,8 +8,9 @@ use Rattle.plant_model.specs.declared.parts.Parts.{Parts}
 use Rattle.slot_box.specs.declared.node.Node.{Node}
 use Rattle.slot_box.specs.declared.node.Node.TheVariants.{Inner, Leaf}
 use Rattle.slot_box.specs.declared.slot.Slot.{Slot}
+use Rattle.leaf_value.specs.LeafValue.{greater}
 use Rattle.dossier_check.specs.Earlier.{with_node}
-use Rattle.dossier_check.specs.NodeReasons.{node_value, greater, greatest_value}
+use Rattle.dossier_check.specs.NodeReasons.{node_value, greatest_value}
 use Rattle.dossier_check.specs.Nodes.{IsLeafValue, IsBoundOf}
 use Rattle.dossier_check.specs.Reasons.{is_same}
 use Rattle.dossier_check.proofs.PlaceLaws.{rest_at, with_found, holders, box_at, has_box}

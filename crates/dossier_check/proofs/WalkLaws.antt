@@ -7,11 +7,12 @@ use Rattle.plant_model.specs.declared.parts.Parts.{Parts}
 use Rattle.slot_box.specs.declared.node.Node.{Node}
 use Rattle.slot_box.specs.declared.slot.Slot.{Slot}
 use Rattle.slot_box.specs.declared.term.Term.{Term}
+use Rattle.leaf_value.specs.LeafValue.{greater}
 use Rattle.dossier_check.specs.declared.met.Met.{Met}
 use Rattle.dossier_check.specs.declared.tree.Frame.{Frame}
 use Rattle.dossier_check.specs.declared.verdict.Reason.{Reason}
 use Rattle.dossier_check.specs.Earlier.{Holder, box_of, with_node}
-use Rattle.dossier_check.specs.NodeReasons.{term_reasons, terms_reasons, node_reasons, nodes_reasons, greater, greatest_value}
+use Rattle.dossier_check.specs.NodeReasons.{term_reasons, terms_reasons, node_reasons, nodes_reasons, greatest_value}
 use Rattle.dossier_check.specs.Walks.{Keeps, IsMet}
 
 -- the rest of a list begins with the item of the place

@@ -1,5 +1,5 @@
 -- What stands against the nodes of a dossier, each by its line; and the values of its leaves.
-use Rattle.std.specs.Prelude.{ℕ, ◌+◌, ◌^◌, ◌==◌, ◌&&◌, nat_lt, nat_le, not, int_lt, if◌then◌else◌, ℤ, List, [], ◌∷◌, ◌++◌, Option, Some, None}
+use Rattle.std.specs.Prelude.{ℕ, ◌+◌, ◌^◌, ◌==◌, ◌&&◌, nat_lt, nat_le, not, ℤ, List, [], ◌∷◌, ◌++◌, Option, Some, None}
 use Rattle.item_lists.specs.Faults.{unless}
 use Rattle.plant_model.specs.declared.parts.Parts.{Parts}
 use Rattle.slot_box.specs.declared.node.Leaf.{Leaf as LeafKind}
@@ -12,7 +12,7 @@ use Rattle.slot_box.specs.declared.term.Term.{Term}
 use Rattle.slot_box.specs.declared.term.Term.TheVariants.{Row, Cut}
 use Rattle.slot_box.specs.Boxes.{points_of}
 use Rattle.slot_box.specs.Splits.{is_lawful}
-use Rattle.leaf_value.specs.LeafValue.{leaf_value_of}
+use Rattle.leaf_value.specs.LeafValue.{leaf_value_of, greater}
 use Rattle.dossier_check.specs.declared.verdict.Reason.{Reason}
 use Rattle.dossier_check.specs.Earlier.{Holder, is_held, box_of, with_node}
 
@@ -75,12 +75,6 @@ abbrev pub node_value : Parts → Option (List Slot) → Node → Option ℤ
 node_value parts None node = None
 node_value parts (Some box) (Inner ticket split) = None
 node_value parts (Some box) (Leaf leaf) = leaf_value_of parts box leaf
-
--- the greater of two values, each of which may be none
-abbrev pub greater : Option ℤ → Option ℤ → Option ℤ
-greater None value = value
-greater (Some best) None = Some best
-greater (Some best) (Some value) = Some (if int_lt best value then value else best)
 
 -- the greatest of a value and those of the nodes from an id on, where those inner nodes were met before
 abbrev pub greatest_value : Parts → List Slot → Option ℤ → List Holder → ℕ → List Node → Option ℤ

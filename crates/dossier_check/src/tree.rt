@@ -8,7 +8,7 @@ ghost use Rattle.leaf_value.specs.LeafValue.{leaf_value_of};
 ghost use Rattle.leaf_value.specs.PlainValue.{root_box_of};
 ghost use Rattle.dossier_text.specs.Ranges.{IsReadable};
 ghost use Rattle.dossier_check.specs.Earlier.{Holder};
-ghost use Rattle.dossier_check.specs.NodeReasons.{reason, greater, inner_reasons, leaf_reasons, nodes_reasons, greatest_value};
+ghost use Rattle.dossier_check.specs.NodeReasons.{reason, inner_reasons, leaf_reasons, nodes_reasons, greatest_value};
 ghost use Rattle.dossier_check.specs.Reasons.{tree_reasons, greatest_of, first_node_line};
 ghost use Rattle.dossier_check.specs.Verdicts.{Tests};
 ghost use Rattle.dossier_check.specs.Walks.{Keeps, MeetsInner, Meets};
@@ -18,6 +18,7 @@ use crate::met::Met;
 use crate::verdict::{Reason, Refusal};
 use dossier_text::Dossier;
 use item_lists::expect;
+use leaf_value::greater;
 use plant_model::Plant;
 use slot_box::{Leaf, Node, SlotBox, Split, SplitFault};
 use std::alloc::{AllocError, Global};
@@ -31,17 +32,6 @@ pub(crate) struct Frame {
     pub(crate) cuts: u32,
     /// The line of node 0.
     pub(crate) first_line: u32,
-}
-
-/// The greater of two values, each of which may be none.
-fn greater(best: Option<i64>, value: Option<i64>) -> Option<i64>
-    ensures { result ≡ greater best value }
-{
-    match (best, value) {
-        (Some(best), Some(value)) => Some(if best < value { value } else { best }),
-        (None, value) => value,
-        (best, None) => best,
-    }
 }
 
 /// The two parts of the box of an inner node in this line.

@@ -1,6 +1,6 @@
 -- Which leaves of a search tree are lawful, and which value each has. So far rows have no names, so that a lawful leaf
 -- has no entries, and no leaf may be closed as dead or void.
-use Rattle.std.specs.Prelude.{◌≡◌, ℕ, ◌^◌, ◌≤◌, ℤ, pos, ◌≤ℤ◌, ◌&&◌, if◌then◌else◌, List, [], Option, Some, None}
+use Rattle.std.specs.Prelude.{◌≡◌, ℕ, ◌^◌, ◌≤◌, ℤ, pos, ◌≤ℤ◌, ◌&&◌, int_lt, if◌then◌else◌, List, [], Option, Some, None}
 use Rattle.std.specs.Option.{is_none}
 use Rattle.plant_model.specs.declared.parts.Parts.{Parts}
 use Rattle.replay_core.specs.Legal.{IsLegal, first_broken}
@@ -27,6 +27,12 @@ leaf_value_of parts box (Void terms) = None
 leaf_value_of parts box (Dual q terms) = Some (pos (plain_value_of parts box))
 leaf_value_of parts box (Undone q terms) = Some (pos (plain_value_of parts box))
 leaf_value_of parts box Point = point_value parts (only_point box)
+
+-- the greater of two values, each of which may be none
+abbrev pub greater : Option ℤ → Option ℤ → Option ℤ
+greater None value = value
+greater (Some best) None = Some best
+greater (Some best) (Some value) = Some (if int_lt best value then value else best)
 
 -- a denominator, and no entries
 pub record IsPlain (q : ℕ) (terms : List Term) : Type 0 where

@@ -1,11 +1,13 @@
-use Rattle.std.proofs.Common.{Some, subst, w64}
+use Rattle.std.proofs.Common.{Some, ap, ◌∙◌, w64}
 use Rattle.std.proofs.lemmas.Int.{to_z-of_z}
-use Rattle.box_search.specs.Values.{IsGreaterOf}
+use Rattle.leaf_value.specs.LeafValue.{greater}
 use Rattle.box_search.proofs.SearchLaws.{IsSearch-open}
+use Rattle.box_search.proofs.ValueLaws.{greater_is}
 use Rattle.box_search.proofs.examine.leave_open.Goals as goal
 
 pub returns-clause-state : goal.returns-clause-state
 returns-clause-state c =
-    let up = subst (λ v. IsGreaterOf c.args.search.now.bound (Some v) c.settle.new.search.bound) (to_z-of_z w64 c.args.value c.ranges.value) c.settle.ensures.bound in
+    let given = ap (λ v. greater c.args.search.now.bound (Some v)) (to_z-of_z w64 c.args.value c.ranges.value) in
+    let up = greater_is c.args.search.now.bound (Some c.args.value) c.settle.new.search.bound (c.settle.ensures.bound ∙ given) in
     rw (c.settle.ensures.rest, c.open_leaf.ensures)
     (IsSearch-open c.args.plant.now c.args.slots c.args.budget c.args.search.now c.args.pending c.requires.state c.args.value c.settle.new.search.bound c.requires.value c.requires.spent c.requires.several up)
