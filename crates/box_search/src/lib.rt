@@ -15,3 +15,6 @@ mod examine;
 mod search;
 
 pub use search::{Found, search_boxes};
+
+#[cfg(test)]
+mod tests;
