@@ -1,4 +1,7 @@
+mod cases;
+
 use crate::{PlantTextFault, key_name, read_plant, section_name};
+use cases::{changed_parts, other_texts};
 use plant_model::Place;
 use std::alloc::{AllocError, Global};
 use std::test::Fail;
@@ -42,99 +45,19 @@ fn with(alloc: Global, old: &str, new: &str) -> Result<String, Fail> {
 #[test]
 fn tells_the_first_fault(rt: HostRuntime) -> Result<(), Fail> {
     let alloc = rt.alloc();
-    let table = [
-        ("{\"format\"", "{\"format\"", "plant"),
-        ("\"format\":1", " \"format\" : 1 ", "plant"),
-        (
-            "\"format\":1,\"horizon\":2,",
-            "\"horizon\":2,\"format\":1,",
-            "plant",
-        ),
-        ("\"horizon\":2", "\"horizon\":3,\"horizon\":2", "plant"),
-        ("\"properties\":[]}],", "\"properties\":[]},],", "json"),
-        ("\"format\":1", "\"format\":01", "json"),
-        ("\"horizon\":2", "\"horizon\":2.0", "shape plant 0 horizon"),
-        ("\"horizon\":2", "\"horizon\":-0", "shape plant 0 horizon"),
-        ("\"horizon\":2", "\"horizon\":2e0", "shape plant 0 horizon"),
-        (
-            "\"horizon\":2",
-            "\"horizon\":9223372036854775808",
-            "shape plant 0 horizon",
-        ),
-        ("\"horizon\":2,", "", "shape plant 0 horizon"),
-        ("\"format\":1", "\"format\":2", "shape plant 0 format"),
-        ("\"format\":1", "\"format\":true", "shape plant 0 format"),
-        ("\"format\":1", "\"Format\":1", "shape plant 0 format"),
-        (
-            "\"format\":1",
-            "\"format\":1,\"name\":\"P\"",
-            "shape plant 0 entry",
-        ),
-        ("\"vessels\":[]", "\"vessels\":{}", "shape vessels 0 list"),
-        ("\"vessels\":[],", "", "shape vessels 0 list"),
-        ("\"crudes\":[", "\"crudes\":[7,", "shape crudes 1 entry"),
-        ("\"margin\":3", "\"margin\":\"3\"", "shape crudes 1 margin"),
-        (
-            "\"margin\":3",
-            "\"margin\":3,\"sulphur\":1",
-            "shape crudes 1 entry",
-        ),
-        (
-            "\"amounts\":[4]",
-            "\"amounts\":[4.5]",
-            "shape charging 1 amounts",
-        ),
-        (
-            "\"demand\":[0,10000000]",
-            "\"demand\":[0]",
-            "shape charging 1 demand",
-        ),
-        (
-            "\"demand\":[0,10000000]",
-            "\"demand\":[0,1,2]",
-            "shape charging 1 demand",
-        ),
-        (
-            "\"continuous\":false",
-            "\"continuous\":0",
-            "shape units 1 continuous",
-        ),
-        (
-            "\"limits\":[]",
-            "\"limits\":[[1]]",
-            "shape operations 1 limits",
-        ),
-        (
-            "\"limits\":[]",
-            "\"limits\":[1,2]",
-            "shape operations 1 limits",
-        ),
-        ("\"to\":\"U\"", "\"to\":null", "shape operations 1 to"),
-        ("\"storage\":[]", "\"storage\":[3]", "not yet storage"),
-        (
-            "\"properties\":[],\"crudes\"",
-            "\"properties\":[0],\"crudes\"",
-            "not yet properties",
-        ),
-        ("\"units\":[", "\"units\":[0,", "not yet units"),
-        ("\"horizon\":2", "\"horizon\":0", "1 plant 0 horizon"),
-        ("\"margin\":3", "\"margin\":1000001", "10 crudes 1 margin"),
-        ("\"name\":\"U\"", "\"name\":\"C1\"", "9 units 1 name"),
-        ("\"name\":\"U\"", "\"name\":\"a unit\"", "8 units 1 name"),
-        ("\"to\":\"U\"", "\"to\":\"V\"", "20 operations 1 to"),
-        (
-            "\"window\":[0,2]",
-            "\"window\":[0,3]",
-            "22 operations 1 window",
-        ),
-    ];
-    for (old, new, wanted) in table {
+    for (old, new, wanted) in changed_parts() {
         let text = with(alloc, old, new)?;
         let told = told(alloc, text.as_bytes())?;
-        assert_eq!(rt; told.as_str(), wanted, "{new}");
+        assert_eq!(rt; told.as_str(), *wanted, "{new}");
     }
-    assert_eq!(rt; told(alloc, b"[]")?.as_str(), "shape plant 0 entry");
-    assert_eq!(rt; told(alloc, b"")?.as_str(), "json");
-    assert_eq!(rt; told(alloc, &[b'"', 0xff, b'"'])?.as_str(), "json");
+    Ok(())
+}
+
+#[test]
+fn tells_why_other_texts_are_none(rt: HostRuntime) -> Result<(), Fail> {
+    for (text, wanted) in other_texts() {
+        let told = told(rt.alloc(), text)?;
+        assert_eq!(rt; told.as_str(), *wanted, "{text:?}");
+    }
     Ok(())
 }
