@@ -1,7 +1,7 @@
 -- The kinds of value that a plant text has under its keys: what a JSON value is of a kind, if it is of it.
-use Rattle.std.specs.Prelude.{ℕ, ℤ, pos, Bool, true, false, ◌&&◌, ◌||◌, List, [], ◌∷◌, Option, Some, None, option_map, option_and_then}
-use Rattle.serde_json.specs.Data.{Data, Items, no_items, item, Members, no_members, member}
-use Rattle.serde_json.specs.Find.{as_number, as_i64, as_array, as_object, as_str}
+use Rattle.std.specs.Prelude.{ℤ, List, [], ◌∷◌, Option, Some, None, option_map, option_and_then}
+use Rattle.serde_json.specs.Data.{Data, Items, no_items, item}
+use Rattle.serde_json.specs.Find.{as_number, as_i64, as_array}
 use Rattle.plant_model.specs.declared.parts.Pair.{Pair}
 
 -- a number without fraction and exponent that fits 64 bits with a sign

@@ -1,12 +1,11 @@
 -- The walk over a plant text: which parts its value says, or else the first place at which it has not its form.
-use Rattle.std.specs.Prelude.{ℕ, ◌+◌, ◌-◌, ◌^◌, ◌&&◌, ◌==◌, min, ℤ, pos, Bool, true, false, List, [], ◌∷◌, map, Option, Some, None, option_and_then, is_some, Result, Ok, Err, if◌then◌else◌, codes}
+use Rattle.std.specs.Prelude.{ℕ, ◌+◌, ◌-◌, ◌^◌, ◌&&◌, min, ℤ, pos, Bool, true, false, List, [], ◌∷◌, Option, Some, None, option_and_then, is_some, Result, Ok, Err, if◌then◌else◌, codes}
 use Rattle.std.specs.List.{list_any}
 use Rattle.std.specs.Option.{ok_or, option_map_or}
 use Rattle.std.specs.Str.{bytes_eq}
 use Rattle.std.specs.Ordering.{int_eq}
 use Rattle.serde_json.specs.Data.{Data, Items, no_items, item, Members, no_members, member}
 use Rattle.serde_json.specs.Find.{get, as_array, as_object, as_str, as_bool}
-use Rattle.plant_model.specs.declared.place.Place.{Place}
 use Rattle.plant_model.specs.declared.place.Section.{Section}
 use Rattle.plant_model.specs.declared.place.Section.TheVariants as section
 use Rattle.plant_model.specs.declared.place.Key.{Key}
