@@ -1,5 +1,5 @@
--- A run that nothing hindered has answered with a dossier.
-use Rattle.std.proofs.Common.{◌≡◌, ℕ, inl, inr, ◌+◌, ◌<◌, ◌≤◌, List, length, refl, sym, ap, ◌∙◌, subst, arith}
+-- A run that nothing hindered has served its words.
+use Rattle.std.proofs.Common.{◌≡◌, ℕ, inl, inr, ◌+◌, ◌≤◌, ◌<◌, List, length, Some, Ok, refl, sym, ap, ap₂, ◌∙◌, subst, arith}
 use Rattle.std.specs.Prelude.{IfSome, decimal}
 use Rattle.std.proofs.lemmas.Bool.{cases_eq}
 use Rattle.line_text.specs.Decimal.{HasOneNumber}
@@ -11,14 +11,18 @@ use Rattle.dossier_text.specs.declared.dossier.Word3.{Word3}
 use Rattle.dossier_text.specs.declared.dossier.Word3.TheVariants.{Plan, Infeasible, Open3}
 use Rattle.crude_run.specs.declared.answer.Answer.{Answer}
 use Rattle.crude_run.specs.declared.words.Ask.{Ask}
-use Rattle.crude_run.specs.declared.words.Command.TheVariants.{Solve}
+use Rattle.crude_run.specs.declared.words.Command.{Command}
+use Rattle.crude_run.specs.declared.words.Command.TheVariants.{Solve, Check}
 use Rattle.crude_run.specs.declared.files.TheConstants.{PLANT_LIMIT}
 use Rattle.crude_run.specs.declared.status.TheConstants.{NO_MEMORY, WRITE_FAILED}
 use Rattle.crude_run.specs.Words.{line_words, IsPlainLine}
 use Rattle.crude_run.specs.Files.{Files, FileRead, bytes, failed, longer, MayGive}
 use Rattle.crude_run.specs.Solving.{status_of, Solves}
-use Rattle.crude_run.specs.Answered.{SolvesText, SolvesRead, Serves, CallsFor, Outlet, Answered}
-use Rattle.crude_run.specs.Completeness.{IsUnhindered, HasDossierStatus, IsComplete}
+use Rattle.crude_run.specs.Checking.{Checks}
+use Rattle.crude_run.specs.Answered.{OfPlant, OfFile, OfPlantFile, Serves, CallsFor, Outlet, Answered}
+use Rattle.crude_run.specs.Completeness.{IsAtHand, IsPlantAtHand, NoWriteFailed, HasDossierStatus, HasVerdictStatus, IsComplete}
+
+-- ---- lines
 
 -- words are the plain line of one command alone
 same_plant : (words : List (List ℕ)) (plant other : List ℕ) (ask asked : Ask) → IsPlainLine words (Solve plant ask) → IsPlainLine words (Solve other asked) → other ≡ plant
@@ -39,6 +43,21 @@ same_ask one words plant other ask asked first second =
     ∙ ap (λ n. record { slots = ask.slots; nodes = n; workers = asked.workers }) nodes
     ∙ ap (λ n. record { slots = ask.slots; nodes = ask.nodes; workers = n }) workers
 
+-- of one command, whichever it is
+same_command : HasOneNumber → (words : List (List ℕ)) (command other : Command) → IsPlainLine words command → IsPlainLine words other → other ≡ command
+same_command one words (Solve plant ask) (Solve other asked) first second =
+    ap₂ Solve (same_plant words plant other ask asked first second) (same_ask one words plant other ask asked first second)
+same_command one words (Check plant dossier) (Check other another) first second =
+    let both : line_words (Check other another) ≡ line_words (Check plant dossier) = sym second.0 ∙ first.0 in cc
+same_command one words (Solve plant ask) (Check other another) first second =
+    let both : line_words (Check other another) ≡ line_words (Solve plant ask) = sym second.0 ∙ first.0 in
+    let counts : 3 ≡ 8 = ap length both in absurd (omega (arith, counts))
+same_command one words (Check plant dossier) (Solve other asked) first second =
+    let both : line_words (Solve other asked) ≡ line_words (Check plant dossier) = sym second.0 ∙ first.0 in
+    let counts : 8 ≡ 3 = ap length both in absurd (omega (arith, counts))
+
+-- ---- statuses
+
 -- the status of a dossier
 dossier_status : (parts : Parts) (ask : Ask) (answer : Answer) → Solves parts ask.slots ask.nodes answer → HasDossierStatus parts ask answer.status
 dossier_status parts ask answer solved = by_word solved.dossier.answer refl
@@ -55,40 +74,56 @@ dossier_status parts ask answer solved = by_word solved.dossier.answer refl
               | inr plan ↦ absurd (let clash : Open3 ≡ Plan = sym is ∙ plan.0 in cc)
             ]
 
-module _ (words : List (List ℕ)) (files : Files) (outlet : Outlet) (plant : List ℕ) (ask : Ask) (parts : Parts) (is : IsUnhindered words files outlet plant ask parts) where
-  -- what was read is the file
-  served : (answer : Answer) (read : FileRead) → MayGive files plant PLANT_LIMIT read → SolvesRead ask read answer → HasDossierStatus parts ask answer.status
-  served answer (bytes found) may solved =
-      let same : found ≡ is.file = subst (λ told. IfSome told (λ file. found ≡ file)) is.told may.1 in
-      dossier_status parts ask answer
-      (subst (λ made. SolvesText ask made answer) is.accepted (subst (λ text. SolvesText ask (plant_of text) answer) same solved))
-  served answer failed may solved = absurd (is.read may)
-  served answer longer may solved =
-      let past = subst (λ told. IfSome told (λ file. PLANT_LIMIT < length file)) is.told may.1 in
-      absurd (let short = is.short in omega arith)
+-- the status of a verdict
+verdict_status : (parts : Parts) (text : List ℕ) (answer : Answer) → Checks parts text answer → HasVerdictStatus answer.status
+verdict_status parts text answer (inl accepted) = inl (ap (λ a. a.status) accepted.told)
+verdict_status parts text answer (inr refused) = inr (inl (ap (λ a. a.status) refused.told))
 
-  called : HasOneNumber → (answer : Answer) → CallsFor words files answer → HasDossierStatus parts ask answer.status
-  called one answer (inl refused) = absurd (refused.0 (Solve plant ask) is.line)
-  called one answer (inr (Solve other asked, line, serves)) =
-      let plant_is = same_plant words plant other ask asked is.line line in
-      let ask_is = same_ask one words plant other ask asked is.line line in
-      let owed : Serves (Solve plant ask) files answer = subst (λ a. Serves (Solve plant a) files answer) ask_is (subst (λ p. Serves (Solve p asked) files answer) plant_is serves) in
-      served answer owed.0 owed.1 owed.2
+-- ---- files at hand
 
-  ended : HasOneNumber → (status : ℕ) → Answered (CallsFor words files) outlet status → HasDossierStatus parts ask status
-  ended one status answered =
-      elim (cases_eq status NO_MEMORY) [
-        | inl memory ↦ inr (inr (inr memory))
-        | inr full ↦
-            elim (cases_eq status WRITE_FAILED) [
-              | inl cut ↦ absurd (is.sent (answered.cut cut).0)
-              | inr sent ↦
-                  let whole = answered.whole full sent in
-                  subst (HasDossierStatus parts ask) whole.1 (called one whole.0 whole.2)
-            ]
-      ]
+-- what is read of a file at hand is the file
+of_at_hand : (files : Files) (number : ℕ) (name : List ℕ) (limit : ℕ) (file : List ℕ) (Goes : List ℕ → Answer → Type 0) (answer : Answer) → IsAtHand files name limit file → OfFile files number name limit Goes answer → Goes file answer
+of_at_hand files number name limit file Goes answer is (bytes found, may, owed) =
+    let same : found ≡ file = subst (λ told. IfSome told (λ text. found ≡ text)) is.told may.1 in
+    subst (λ text. Goes text answer) same owed
+of_at_hand files number name limit file Goes answer is (failed, may, owed) = absurd (is.read may)
+of_at_hand files number name limit file Goes answer is (longer, may, owed) =
+    let past : limit < length file = subst (λ told. IfSome told (λ text. limit < length text)) is.told may.1 in
+    absurd (let short = is.short in omega arith)
+
+-- and the plant is that of the file
+of_plant_at_hand : (files : Files) (name : List ℕ) (parts : Parts) (Goes : Parts → Answer → Type 0) (answer : Answer) → IsPlantAtHand files name parts → OfPlantFile files name Goes answer → Goes parts answer
+of_plant_at_hand files name parts Goes answer is owed =
+    subst (λ read. OfPlant Goes read answer) is.accepted
+    (of_at_hand files 1 name PLANT_LIMIT is.file (λ text. OfPlant Goes (plant_of text)) answer is.at_hand owed)
+
+-- ---- the run
+
+-- what words call for that are the line of a command is what the command calls for
+called : HasOneNumber → (words : List (List ℕ)) (command : Command) (files : Files) (answer : Answer) → IsPlainLine words command → CallsFor words files answer → Serves command files answer
+called one words command files answer line (inl refused) = absurd (refused.0 command line)
+called one words command files answer line (inr (other, plain, serves)) =
+    subst (λ c. Serves c files answer) (same_command one words command other line plain) serves
+
+-- a run whose writes did not fail has the status of the answer, or memory was wanting
+ended : (P : ℕ → Type 0) (Due : Answer → Type 0) (outlet : Outlet) (status : ℕ) → NoWriteFailed outlet → P NO_MEMORY → ((answer : Answer) → Due answer → P answer.status) → Answered Due outlet status → P status
+ended P Due outlet status sent memory served answered =
+    elim (cases_eq status NO_MEMORY) [
+      | inl full ↦ subst P (sym full) memory
+      | inr room ↦
+          elim (cases_eq status WRITE_FAILED) [
+            | inl cut ↦ absurd (sent (answered.cut cut).0)
+            | inr written ↦ let whole = answered.whole room written in subst P whole.1 (served whole.0 whole.2)
+          ]
+    ]
 
 -- so a run is complete
 pub IsComplete-from : HasOneNumber → (words : List (List ℕ)) (files : Files) (outlet : Outlet) (status : ℕ) → Answered (CallsFor words files) outlet status → IsComplete words files outlet status
-IsComplete-from one words files outlet status answered plant ask parts is =
-    ended words files outlet plant ask parts is one status answered
+IsComplete-from one words files outlet status answered = record {
+  solves = λ plant ask parts line there sent.
+      ended (HasDossierStatus parts ask) (CallsFor words files) outlet status sent (inr (inr (inr refl)))
+      (λ answer owed. dossier_status parts ask answer (of_plant_at_hand files plant parts _ answer there (called one words (Solve plant ask) files answer line owed))) answered;
+  checks = λ plant dossier file parts line there second sent.
+      ended HasVerdictStatus (CallsFor words files) outlet status sent (inr (inr refl))
+      (λ answer owed. verdict_status parts file answer (of_at_hand files 2 dossier _ file (Checks parts) answer second (of_plant_at_hand files plant parts _ answer there (called one words (Check plant dossier) files answer line owed)))) answered;
+}

@@ -1,41 +1,75 @@
 -- How a run ends that owed an answer.
-use Rattle.std.proofs.Common.{◌<◌, List, Result, Ok, Err, arith}
-use Rattle.std.specs.Prelude.{IfOk, ℕ}
+use Rattle.std.proofs.Common.{◌≡◌, ◌<◌, ℕ, List, Result, Ok, Err, inl, inr, sym, subst, arith}
 use Rattle.plant_model.specs.declared.parts.Parts.{Parts}
 use Rattle.plant_text.specs.declared.fault.PlantTextFault.{PlantTextFault}
 use Rattle.plant_text.specs.declared.fault.PlantTextFault.TheVariants as fault
 use Rattle.plant_text.specs.PlantText.{plant_of}
-use Rattle.crude_run.specs.declared.answer.Answer.{Answer}
-use Rattle.crude_run.specs.declared.words.Ask.{Ask}
-use Rattle.crude_run.specs.Files.{Files, FileRead, bytes, failed, longer, MayGive}
-use Rattle.crude_run.specs.declared.words.Command.TheVariants.{Solve}
-use Rattle.crude_run.specs.declared.files.TheConstants.{PLANT_LIMIT}
-use Rattle.std.specs.declared.alloc.AllocError.{AllocError}
 use Rattle.dossier_text.specs.declared.dossier.Word3.{Word3}
 use Rattle.dossier_text.specs.declared.dossier.Word3.TheVariants.{Plan, Infeasible, Open3}
-use Rattle.crude_run.specs.Solving.{status_of}
-use Rattle.crude_run.specs.Answered.{SolvesText, SolvesRead, Serves}
+use Rattle.crude_run.specs.declared.answer.Answer.{Answer}
+use Rattle.crude_run.specs.declared.opening.Stop.{Stop}
+use Rattle.crude_run.specs.declared.opening.Stop.TheVariants as stop
+use Rattle.crude_run.specs.declared.words.Command.{Command}
+use Rattle.crude_run.specs.declared.words.Command.TheVariants.{Solve, Check}
+use Rattle.crude_run.specs.Files.{Files, FileRead, bytes, failed, longer}
+use Rattle.crude_run.specs.Solving.{status_of, Solves}
+use Rattle.crude_run.specs.Checking.{Checks}
+use Rattle.crude_run.specs.Answered.{OfPlant, OfRead, Serves, Outlet, Answered}
+use Rattle.crude_run.specs.Stopping.{IfDue, IsDue}
+
+-- ---- statuses
 
 status_below : (answer : Word3) → status_of answer < 71
 status_below Plan = omega arith
 status_below Infeasible = omega arith
 status_below Open3 = omega arith
 
-text_below : (ask : Ask) (read : Result Parts PlantTextFault) (answer : Answer) → SolvesText ask read answer → answer.status < 71
-text_below ask (Ok parts) answer owed = rw owed.status (status_below owed.dossier.answer)
-text_below ask (Err fault.Json) answer owed = rw owed (omega arith)
-text_below ask (Err (fault.Shape place)) answer owed = rw owed (omega arith)
-text_below ask (Err (fault.Plant found)) answer owed = rw owed (omega arith)
-text_below ask (Err (fault.NotYet section)) answer owed = rw owed (omega arith)
-text_below ask (Err fault.Memory) answer owed = absurd owed
+solves_below : (parts : Parts) (n budget : ℕ) (answer : Answer) → Solves parts n budget answer → answer.status < 71
+solves_below parts n budget answer owed = rw owed.status (status_below owed.dossier.answer)
 
--- an answer that `solve` owes has a status below those of runs that end short
-pub solves_below : (ask : Ask) (read : FileRead) (answer : Answer) → SolvesRead ask read answer → answer.status < 71
-solves_below ask failed answer owed = rw owed (omega arith)
-solves_below ask longer answer owed = rw owed (omega arith)
-solves_below ask (bytes found) answer owed = text_below ask (plant_of found) answer owed
+checks_below : (parts : Parts) (text : List ℕ) (answer : Answer) → Checks parts text answer → answer.status < 71
+checks_below parts text answer (inl accepted) = rw accepted.told (omega arith)
+checks_below parts text answer (inr refused) = rw refused.told (omega arith)
 
--- bytes that reading may have given are served
-pub serves_bytes : (plant : List ℕ) (ask : Ask) (files : Files) (found : List ℕ) (made : Result Answer AllocError) → MayGive files plant PLANT_LIMIT (bytes found) → IfOk made (SolvesText ask (plant_of found)) → IfOk made (Serves (Solve plant ask) files)
-serves_bytes plant ask files found (Ok answer) may owed = (bytes found, may, owed)
-serves_bytes plant ask files found (Err refused) may owed = tt
+plant_below : (Goes : Parts → Answer → Type 0) → ((parts : Parts) (answer : Answer) → Goes parts answer → answer.status < 71)
+    → (read : Result Parts PlantTextFault) (answer : Answer) → OfPlant Goes read answer → answer.status < 71
+plant_below Goes goes (Ok parts) answer owed = goes parts answer owed
+plant_below Goes goes (Err fault.Json) answer owed = rw owed (omega arith)
+plant_below Goes goes (Err (fault.Shape place)) answer owed = rw owed (omega arith)
+plant_below Goes goes (Err (fault.Plant found)) answer owed = rw owed (omega arith)
+plant_below Goes goes (Err (fault.NotYet section)) answer owed = rw owed (omega arith)
+plant_below Goes goes (Err fault.Memory) answer owed = absurd owed
+
+read_below : (number : ℕ) (Goes : List ℕ → Answer → Type 0) → ((found : List ℕ) (answer : Answer) → Goes found answer → answer.status < 71)
+    → (read : FileRead) (answer : Answer) → OfRead number Goes read answer → answer.status < 71
+read_below number Goes goes (bytes found) answer owed = goes found answer owed
+read_below number Goes goes failed answer owed = rw owed (omega arith)
+read_below number Goes goes longer answer owed = rw owed (omega arith)
+
+-- an answer that a command calls for has a status below those of runs that end short
+pub serves_below : (command : Command) (files : Files) (answer : Answer) → Serves command files answer → answer.status < 71
+serves_below (Solve plant ask) files answer (read, may, owed) =
+    read_below 1 _ (λ text. plant_below _ (λ parts. solves_below parts ask.slots ask.nodes) (plant_of text)) read answer owed
+serves_below (Check plant dossier) files answer (read, may, owed) =
+    read_below 1 _ (λ text. plant_below _ (λ parts due second. read_below 2 _ (checks_below parts) second.0 due second.2) (plant_of text)) read answer owed
+
+-- ---- the answer that is due
+
+-- what is so of the answer that is due has consequences
+pub IfDue-map : (P Q : Answer → Type 0) → ((answer : Answer) → P answer → Q answer) → (outcome : Result Answer Stop) → IfDue outcome P → IfDue outcome Q
+IfDue-map P Q then (Ok answer) due = then answer due
+IfDue-map P Q then (Err (stop.Due answer)) due = then answer due
+IfDue-map P Q then (Err stop.Memory) due = tt
+
+owed : (P : Answer → Type 0) (outcome : Result Answer Stop) → IfDue outcome P → (answer : Answer) → IsDue outcome answer → P answer
+owed P (Ok due) is answer same = subst P (sym same) is
+owed P (Err (stop.Due due)) is answer same = subst P (sym same) is
+owed P (Err stop.Memory) is answer same = absurd same
+
+-- a run that owed the answer that is due owed one of which the same is so
+pub Answered-due : (P : Answer → Type 0) (outcome : Result Answer Stop) (outlet : Outlet) (status : ℕ) → IfDue outcome P → Answered (IsDue outcome) outlet status → Answered P outlet status
+Answered-due P outcome outlet status is ended = record {
+  memory = ended.memory;
+  cut = λ short. let part = ended.cut short in (part.0, (part.1.0, owed P outcome is part.1.0 part.1.1, part.1.2));
+  whole = λ full sent. let all = ended.whole full sent in (all.0, all.1, owed P outcome is all.0 all.2, all.3);
+}

@@ -1,4 +1,6 @@
 pub mod WordLaws
 pub mod Ending
+pub mod OpeningLaws
+pub mod CheckLaws
 pub mod SolutionLaws
 pub mod CompleteLaws

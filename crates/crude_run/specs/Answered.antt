@@ -7,34 +7,43 @@ use Rattle.plant_text.specs.declared.fault.PlantTextFault.{PlantTextFault}
 use Rattle.plant_text.specs.declared.fault.PlantTextFault.TheVariants as fault
 use Rattle.plant_text.specs.PlantText.{plant_of}
 use Rattle.crude_run.specs.declared.answer.Answer.{Answer}
-use Rattle.crude_run.specs.declared.words.Ask.{Ask}
 use Rattle.crude_run.specs.declared.words.Command.{Command}
-use Rattle.crude_run.specs.declared.words.Command.TheVariants.{Solve}
-use Rattle.crude_run.specs.declared.files.TheConstants.{PLANT_LIMIT}
+use Rattle.crude_run.specs.declared.words.Command.TheVariants.{Solve, Check}
+use Rattle.crude_run.specs.declared.files.TheConstants.{PLANT_LIMIT, DOSSIER_LIMIT}
 use Rattle.crude_run.specs.declared.status.TheConstants.{NO_MEMORY, WRITE_FAILED}
 use Rattle.crude_run.specs.Words.{IsPlainLine, AreRefused}
 use Rattle.crude_run.specs.Files.{Files, FileRead, bytes, failed, longer, MayGive}
 use Rattle.crude_run.specs.Texts.{words_refused, plant_refused, not_yet, read_failed, too_long}
 use Rattle.crude_run.specs.Solving.{Solves}
+use Rattle.crude_run.specs.Checking.{Checks}
 
--- the answer of `solve` to what its plant text is
-abbrev pub SolvesText : Ask → Result Parts PlantTextFault → Answer → Type 0
-SolvesText ask (Ok parts) answer = Solves parts ask.slots ask.nodes answer
-SolvesText ask (Err fault.Json) answer = answer ≡ plant_refused
-SolvesText ask (Err (fault.Shape place)) answer = answer ≡ plant_refused
-SolvesText ask (Err (fault.Plant found)) answer = answer ≡ plant_refused
-SolvesText ask (Err (fault.NotYet section)) answer = answer ≡ not_yet section
-SolvesText ask (Err fault.Memory) answer = ⊥
+-- the answer to what a plant text is: to its plant, or why it is refused
+abbrev pub OfPlant : (Parts → Answer → Type 0) → Result Parts PlantTextFault → Answer → Type 0
+OfPlant Goes (Ok parts) answer = Goes parts answer
+OfPlant Goes (Err fault.Json) answer = answer ≡ plant_refused
+OfPlant Goes (Err (fault.Shape place)) answer = answer ≡ plant_refused
+OfPlant Goes (Err (fault.Plant found)) answer = answer ≡ plant_refused
+OfPlant Goes (Err (fault.NotYet section)) answer = answer ≡ not_yet section
+OfPlant Goes (Err fault.Memory) answer = ⊥
 
--- the answer of `solve` to what reading its plant file gave
-abbrev pub SolvesRead : Ask → FileRead → Answer → Type 0
-SolvesRead ask (bytes found) answer = SolvesText ask (plant_of found) answer
-SolvesRead ask failed answer = answer ≡ read_failed
-SolvesRead ask longer answer = answer ≡ too_long
+-- the answer to what reading the command's file of this number gave: to its bytes, or why there are none
+abbrev pub OfRead : ℕ → (List ℕ → Answer → Type 0) → FileRead → Answer → Type 0
+OfRead number Goes (bytes found) answer = Goes found answer
+OfRead number Goes failed answer = answer ≡ read_failed number
+OfRead number Goes longer answer = answer ≡ too_long number
+
+-- the answer to that file, which has this name and limit
+abbrev pub OfFile : Files → ℕ → List ℕ → ℕ → (List ℕ → Answer → Type 0) → Answer → Type 0
+OfFile files number name limit Goes answer = (read : FileRead) × MayGive files name limit read × OfRead number Goes read answer
+
+-- the answer to the plant file, which every command names first
+abbrev pub OfPlantFile : Files → List ℕ → (Parts → Answer → Type 0) → Answer → Type 0
+OfPlantFile files name Goes answer = OfFile files 1 name PLANT_LIMIT (λ text. OfPlant Goes (plant_of text)) answer
 
 -- the answer that a command calls for, by these files
 abbrev pub Serves : Command → Files → Answer → Type 0
-Serves (Solve plant ask) files answer = (read : FileRead) × MayGive files plant PLANT_LIMIT read × SolvesRead ask read answer
+Serves (Solve plant ask) files answer = OfPlantFile files plant (λ parts. Solves parts ask.slots ask.nodes) answer
+Serves (Check plant dossier) files answer = OfPlantFile files plant (λ parts. OfFile files 2 dossier DOSSIER_LIMIT (Checks parts)) answer
 
 -- the answer that words call for: a refusal where they are no plain line, else that of their command
 abbrev pub CallsFor : List (List ℕ) → Files → Answer → Type 0

@@ -2,7 +2,9 @@ pub mod Words
 pub mod WordReading
 pub mod Texts
 pub mod Solving
+pub mod Checking
 pub mod Files
 pub mod Answered
 pub mod Concluding
+pub mod Stopping
 pub mod Completeness

@@ -1,9 +1,12 @@
 -- What the program answers: a status, and the whole text that goes with it.
-use Rattle.std.specs.Prelude.{ℕ, List, [], ◌∷◌, ◌++◌, codes}
+use Rattle.std.specs.Prelude.{ℕ, ℤ, List, [], ◌∷◌, ◌++◌, Option, codes, decimal}
+use Rattle.line_text.specs.Words.{text_of}
 use Rattle.plant_model.specs.declared.place.Section.{Section}
 use Rattle.plant_text.specs.Names.{section_name}
+use Rattle.dossier_text.specs.declared.dossier.Word3.{Word3}
+use Rattle.dossier_text.specs.Text.{claim_lines}
 use Rattle.crude_run.specs.declared.answer.Answer.{Answer}
-use Rattle.crude_run.specs.declared.status.TheConstants.{WORDS_REFUSED, PLANT_REFUSED, READ_FAILED, TOO_LONG, NOT_YET}
+use Rattle.crude_run.specs.declared.status.TheConstants.{ACCEPTED, NOT_ACCEPTED, WORDS_REFUSED, PLANT_REFUSED, READ_FAILED, TOO_LONG, NOT_YET}
 
 -- a status with one line
 abbrev pub one_line : ℕ → List ℕ → Answer
@@ -21,10 +24,18 @@ plant_refused = one_line PLANT_REFUSED (codes "refused plant")
 abbrev pub not_yet : Section → Answer
 not_yet section = one_line NOT_YET (codes "not yet " ++ section_name section)
 
--- the first file of the command could not be read
-abbrev pub read_failed : Answer
-read_failed = one_line READ_FAILED (codes "read failed 1")
+-- the command's file of this number, counted from 1, could not be read
+abbrev pub read_failed : ℕ → Answer
+read_failed number = one_line READ_FAILED (codes "read failed" ++ 32 ∷ decimal number)
 
--- the first file of the command is too long
-abbrev pub too_long : Answer
-too_long = one_line TOO_LONG (codes "too long 1")
+-- that file is too long
+abbrev pub too_long : ℕ → Answer
+too_long number = one_line TOO_LONG (codes "too long" ++ 32 ∷ decimal number)
+
+-- the dossier is accepted: yes, and below it what it says of plans, its margin and its bound, as it has them
+abbrev pub accepted : Word3 → Option ℤ → Option ℤ → Answer
+accepted answer margin bound = record { status = ACCEPTED; text = codes "yes" ++ 10 ∷ text_of (claim_lines answer margin bound) }
+
+-- the dossier is not accepted: no, the number of the first reason, and the line where it stands
+abbrev pub not_accepted : ℕ → ℕ → Answer
+not_accepted reason line = one_line NOT_ACCEPTED (codes "no" ++ 32 ∷ decimal reason ++ 32 ∷ decimal line)

@@ -2,12 +2,16 @@
 use Rattle.std.specs.Prelude.{◌≡◌, ℕ, Bool, ◌&&◌, List, codes, decimal}
 use Rattle.std.specs.Str.{bytes_eq}
 use Rattle.crude_run.specs.declared.words.Ask.{Ask}
-use Rattle.crude_run.specs.declared.words.Command.TheVariants.{Solve}
+use Rattle.crude_run.specs.declared.words.Command.TheVariants.{Solve, Check}
 use Rattle.crude_run.specs.Words.{is_file_word, IsAskInRange, IsPlainLine}
 
 -- the words are a plain line that asks this, for the plant of some file
 abbrev pub IsSolveLine : List (List ℕ) → Ask → Type 0
 IsSolveLine words ask = (plant : List ℕ) × IsPlainLine words (Solve plant ask)
+
+-- the words are a plain line that asks for a check of some dossier against some plant
+abbrev pub IsCheckLine : List (List ℕ) → Type 0
+IsCheckLine words = (plant : List ℕ) × (dossier : List ℕ) × IsPlainLine words (Check plant dossier)
 
 -- the three numbers of a line are those of what it asks, each in range
 pub record IsAskOf (slots nodes workers : List ℕ) (ask : Ask) : Type 0 where
@@ -24,3 +28,7 @@ is_solve verb plant slots_option nodes_option workers_option =
     && bytes_eq slots_option (codes "--slots")
     && bytes_eq nodes_option (codes "--nodes")
     && bytes_eq workers_option (codes "--workers")
+
+-- three words are a line of `check`
+abbrev pub is_check : (verb plant dossier : List ℕ) → Bool
+is_check verb plant dossier = bytes_eq verb (codes "check") && is_file_word plant && is_file_word dossier

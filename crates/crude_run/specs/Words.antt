@@ -2,12 +2,13 @@
 use Rattle.std.specs.Prelude.{◌≡◌, ℕ, ◌≤◌, Bool, not, nat_le, ◌&&◌, ◌==◌, IsTrue, List, [], ◌∷◌, length, slice_index, codes, decimal}
 use Rattle.crude_run.specs.declared.words.Ask.{Ask}
 use Rattle.crude_run.specs.declared.words.Command.{Command}
-use Rattle.crude_run.specs.declared.words.Command.TheVariants.{Solve}
+use Rattle.crude_run.specs.declared.words.Command.TheVariants.{Solve, Check}
 
 -- the words of a plain line, in their one order and with their one spelling
 abbrev pub line_words : Command → List (List ℕ)
 line_words (Solve plant ask) =
     codes "solve" ∷ plant ∷ codes "--slots" ∷ decimal ask.slots ∷ codes "--nodes" ∷ decimal ask.nodes ∷ codes "--workers" ∷ decimal ask.workers ∷ []
+line_words (Check plant dossier) = codes "check" ∷ plant ∷ dossier ∷ []
 
 -- a word that names a file: 1 to 255 bytes, of which the first is no `-` (45)
 abbrev pub is_file_word : List ℕ → Bool
@@ -23,6 +24,7 @@ pub record IsAskInRange (ask : Ask) : Type 0 where
 -- what a command names is in range
 abbrev pub IsInRange : Command → Type 0
 IsInRange (Solve plant ask) = IsTrue (is_file_word plant) × IsAskInRange ask
+IsInRange (Check plant dossier) = IsTrue (is_file_word plant) × IsTrue (is_file_word dossier)
 
 -- the words are the plain line of the command
 abbrev pub IsPlainLine : List (List ℕ) → Command → Type 0

@@ -4,6 +4,8 @@ ghost use Rattle.crude_run.specs.Answered.{CallsFor, Answered, outlet_between};
 ghost use Rattle.crude_run.specs.Completeness.{IsComplete};
 
 use crate::answer::words_refused;
+use crate::check::check_files;
+use crate::opening::stop_with;
 use crate::send::finish;
 use crate::solve::solve_file_alone;
 use crate::status::{NO_MEMORY, Status};
@@ -54,7 +56,10 @@ fn serve<H: Shelf, K: Sink, G: Gate>(
                 gate,
             )
         }
-        Err(WordFault::Words) => finish(words_refused(alloc), out),
+        Ok(Command::Check { plant, dossier }) => {
+            check_files(alloc, plant.as_str(), dossier.as_str(), shelf, out)
+        }
+        Err(WordFault::Words) => finish(Err(stop_with(words_refused(alloc))), out),
         Err(WordFault::Memory) => Status::new(NO_MEMORY),
     }
 }

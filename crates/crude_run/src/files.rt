@@ -1,2 +1,4 @@
 /// The most bytes of a plant file.
 pub const PLANT_LIMIT: u64 = 4_194_304;
+/// The most bytes of a dossier.
+pub const DOSSIER_LIMIT: u64 = 1_073_741_824;

@@ -1,19 +1,21 @@
-ghost use Rattle.std.specs.Prelude.{◌≡◌, ◌<◌, Ok, IfOk};
+ghost use Rattle.std.specs.Prelude.{◌≡◌, ◌<◌};
 ghost use Rattle.crude_run.specs.Answered.{Answered, outlet_between};
+ghost use Rattle.crude_run.specs.Stopping.{IfDue, IsDue};
 
 use crate::answer::Answer;
+use crate::opening::Stop;
 use crate::status::{NO_MEMORY, Status, WRITE_FAILED};
 use outer_edge::{Sink, write_all};
-use std::alloc::AllocError;
 
-/// Writes the text of the answer, if there is one, and tells how the run ends.
-pub(crate) fn finish<K: Sink>(answer: Result<Answer, AllocError>, out: &mut K) -> Status
-    requires { IfOk answer (λ due. due.status < NO_MEMORY) }
-    ensures { Answered (λ due. answer ≡ Ok due) (outlet_between K.taken K.faults out.old out.new) result }
+/// Writes the text of the answer that is due, if there is one, and tells how the run ends.
+pub(crate) fn finish<K: Sink>(outcome: Result<Answer, Stop>, out: &mut K) -> Status
+    requires { IfDue outcome (λ due. due.status < NO_MEMORY) }
+    ensures { Answered (IsDue outcome) (outlet_between K.taken K.faults out.old out.new) result }
 {
-    match answer {
+    match outcome {
         Ok(answer) => send(&answer, out),
-        Err(AllocError) => Status::new(NO_MEMORY),
+        Err(Stop::Due(answer)) => send(&answer, out),
+        Err(Stop::Memory) => Status::new(NO_MEMORY),
     }
 }
 

@@ -1,22 +1,21 @@
-ghost use Rattle.std.specs.Prelude.{◌≡◌, ◌<◌, ◌≤◌, IfOk};
-ghost use Rattle.plant_text.specs.PlantText.{plant_of};
+ghost use Rattle.std.specs.Prelude.{◌≡◌, ◌≤◌, IfOk};
 ghost use Rattle.crude_run.specs.declared.words.Ask.{Ask};
 ghost use Rattle.crude_run.specs.Solving.{Solves, status_of};
 ghost use Rattle.crude_run.specs.Files.{files_between};
-ghost use Rattle.crude_run.specs.Answered.{SolvesText, SolvesRead, Serves, Answered, outlet_between};
+ghost use Rattle.crude_run.specs.Answered.{Serves, Answered, outlet_between};
+ghost use Rattle.crude_run.specs.Stopping.{IfDue};
 ghost use Rattle.crude_run.specs.declared.words.Command.TheVariants.{Solve};
 
-use crate::answer::{Answer, not_yet, plant_refused, read_failed, too_long};
+use crate::answer::Answer;
 use crate::conclude::conclude;
-use crate::files::PLANT_LIMIT;
+use crate::opening::{Stop, open_plant};
 use crate::send::finish;
 use crate::status::{INFEASIBLE, NONE_FOUND, PLAN_FOUND, Status};
 use box_search::search_boxes;
 use dossier_text::{Word3, write_dossier};
 use item_lists::Copies;
-use outer_edge::{Gate, Shelf, ShelfFault, Sink};
+use outer_edge::{Gate, Shelf, Sink};
 use plant_model::Plant;
-use plant_text::{PlantTextFault, read_plant};
 use std::alloc::{AllocError, Global};
 
 /// Plans for a plant with at most `slots` operations, and a bound that no plan exceeds, by a tree of at most
@@ -70,11 +69,11 @@ pub fn solve_file_alone<H: Shelf, K: Sink, G: Gate>(
         Answered (Serves (Solve plant.now ask) (files_between H.told H.faults H.longs shelf.old shelf.new))
         (outlet_between K.taken K.faults out.old out.new) result }
 {
-    let answer = solve_file(alloc, plant, slots, nodes, shelf, gate);
-    finish(answer, out)
+    let outcome = solve_file(alloc, plant, slots, nodes, shelf, gate);
+    finish(outcome, out)
 }
 
-/// The answer to what reading the plant file gives.
+/// The answer to the plant file.
 fn solve_file<H: Shelf, G: Gate>(
     alloc: Global,
     plant: &str,
@@ -82,43 +81,14 @@ fn solve_file<H: Shelf, G: Gate>(
     nodes: u32,
     shelf: &mut H,
     gate: &G,
-) -> Result<Answer, AllocError>
+) -> Result<Answer, Stop>
     requires some_slots { 1 ≤ slots }
     requires most_slots { slots ≤ 40 }
     requires most_nodes { nodes ≤ 65535 }
-    ensures serves { let ask : Ask = record { slots = slots; nodes = nodes; workers = 1 } in
-        IfOk result (Serves (Solve plant.now ask) (files_between H.told H.faults H.longs shelf.old shelf.new)) }
-    ensures below { IfOk result (λ answer. answer.status < 71) }
+    ensures { let ask : Ask = record { slots = slots; nodes = nodes; workers = 1 } in
+        IfDue result (Serves (Solve plant.now ask) (files_between H.told H.faults H.longs shelf.old shelf.new)) }
 {
-    match shelf.read(alloc, plant, PLANT_LIMIT) {
-        Ok(bytes) => solve_text(alloc, &bytes, slots, nodes, gate),
-        Err(ShelfFault::Failed) => read_failed(alloc),
-        Err(ShelfFault::TooLong) => too_long(alloc),
-        Err(ShelfFault::Memory) => Err(AllocError),
-    }
-}
-
-/// The answer to a plant text.
-fn solve_text<G: Gate>(
-    alloc: Global,
-    bytes: &[u8],
-    slots: u32,
-    nodes: u32,
-    gate: &G,
-) -> Result<Answer, AllocError>
-    requires some_slots { 1 ≤ slots }
-    requires most_slots { slots ≤ 40 }
-    requires most_nodes { nodes ≤ 65535 }
-    ensures text { let ask : Ask = record { slots = slots; nodes = nodes; workers = 1 } in
-        IfOk result (SolvesText ask (plant_of bytes.now)) }
-    ensures below { IfOk result (λ answer. answer.status < 71) }
-{
-    match read_plant(alloc, bytes) {
-        Ok(plant) => solve_alone(alloc, &plant, slots, nodes, gate),
-        Err(PlantTextFault::Json | PlantTextFault::Shape(_) | PlantTextFault::Plant(_)) => {
-            plant_refused(alloc)
-        }
-        Err(PlantTextFault::NotYet(section)) => not_yet(alloc, section),
-        Err(PlantTextFault::Memory) => Err(AllocError),
-    }
+    let plant = open_plant(alloc, plant, shelf)?;
+    let answer = solve_alone(alloc, &plant, slots, nodes, gate)?;
+    Ok(answer)
 }

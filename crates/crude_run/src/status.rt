@@ -4,6 +4,10 @@ use std::marker::Model;
 
 /// A plan was found.
 pub const PLAN_FOUND: u8 = 0;
+/// The dossier is accepted.
+pub const ACCEPTED: u8 = 0;
+/// The dossier is not accepted.
+pub const NOT_ACCEPTED: u8 = 1;
 /// No plan exists.
 pub const INFEASIBLE: u8 = 3;
 /// No plan was found.

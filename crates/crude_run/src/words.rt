@@ -1,7 +1,7 @@
-ghost use Rattle.std.specs.Prelude.{◌≡◌, ◌≤◌, ℕ, map, string_bytes, decimal, Err, IfOk, IfSome, IfNone};
+ghost use Rattle.std.specs.Prelude.{◌≡◌, ◌↔◌, ◌≤◌, ℕ, true, map, string_bytes, decimal, Err, IfOk, IfSome, IfNone};
 ghost use Rattle.crude_run.specs.declared.words.Ask.{Ask};
 ghost use Rattle.crude_run.specs.Words.{is_file_word, IsPlainLine, AreRefused};
-ghost use Rattle.crude_run.specs.WordReading.{is_solve, IsAskOf, IsSolveLine};
+ghost use Rattle.crude_run.specs.WordReading.{is_solve, is_check, IsAskOf, IsSolveLine, IsCheckLine};
 
 use line_text::{decimal_laws, read_decimal};
 use std::alloc::{AllocError, Global};
@@ -42,6 +42,8 @@ pub struct Ask {
 pub enum Command {
     /// A plan for the plant of this file, and a bound that no plan exceeds.
     Solve { plant: FileName, ask: Ask },
+    /// Whether the dossier of the second file is accepted for the plant of the first.
+    Check { plant: FileName, dossier: FileName },
 }
 
 /// Why words are no command.
@@ -69,18 +71,45 @@ pub fn read_words(alloc: Global, words: &[String]) -> Result<Command, WordFault>
     ensures plain { IfOk result (λ command. IsPlainLine (map string_bytes words.now) command) }
     ensures refused { result ≡ Err WordFault.Words → AreRefused (map string_bytes words.now) }
 {
-    let Some(ask) = read_line(words) else {
-        return Err(WordFault::Words);
-    };
-    let text = words[1].clone()?;
-    Ok(Command::Solve {
-        plant: FileName { text },
-        ask,
-    })
+    if let Some(ask) = read_solve_line(words) {
+        let plant = file_name(&words[1])?;
+        return Ok(Command::Solve { plant, ask });
+    }
+    if is_check_line(words) {
+        let plant = file_name(&words[1])?;
+        let dossier = file_name(&words[2])?;
+        return Ok(Command::Check { plant, dossier });
+    }
+    Err(WordFault::Words)
+}
+
+/// The word as the name of a file.
+fn file_name(word: &String) -> Result<FileName, AllocError>
+    ensures { IfOk result (λ name. name ≡ string_bytes word.now) }
+{
+    let text = word.clone()?;
+    Ok(FileName { text })
+}
+
+/// Whether the words are a plain line of `check`.
+fn is_check_line(words: &[String]) -> bool
+    ensures { (result ≡ true) ↔ IsCheckLine (map string_bytes words.now) }
+{
+    match words {
+        [verb, plant, dossier] => is_check(verb.as_str(), plant.as_str(), dossier.as_str()),
+        _ => false,
+    }
+}
+
+/// Whether three words are a line of `check`.
+fn is_check(verb: &str, plant: &str, dossier: &str) -> bool
+    ensures { result ≡ is_check verb.now plant.now dossier.now }
+{
+    verb == "check" && is_file_word(plant) && is_file_word(dossier)
 }
 
 /// What a plain line of `solve` asks for.
-fn read_line(words: &[String]) -> Option<Ask>
+fn read_solve_line(words: &[String]) -> Option<Ask>
     ensures found { IfSome result (λ ask. IsSolveLine (map string_bytes words.now) ask) }
     ensures none { IfNone result ((ask : Ask) → IsSolveLine (map string_bytes words.now) ask → ⊥) }
 {

@@ -1,11 +1,21 @@
 //! Each public call that takes memory, with enough of it.
 
 use super::runs::{SOUND, shelf, sink, words};
-use super::samples::{one_charge, one_charge_open};
+use super::samples::{one_charge, one_charge_open, one_dual, yes_of_twelve};
 use crate::*;
 use outer_edge::FreeGate;
 use plant_text::read_plant;
 use std::test::Fail;
+
+/// Whether the command asks for so many slots, nodes and workers.
+fn asks(command: &Command, file: &str, numbers: (u32, u32, u32)) -> bool {
+    match command {
+        Command::Solve { plant, ask } => {
+            plant.as_str() == file && (ask.slots, ask.nodes, ask.workers) == numbers
+        }
+        Command::Check { .. } => false,
+    }
+}
 
 #[test]
 fn reads_a_plain_line(rt: HostRuntime) -> Result<(), Fail> {
@@ -13,12 +23,21 @@ fn reads_a_plain_line(rt: HostRuntime) -> Result<(), Fail> {
         rt.alloc(),
         "solve a.json --slots 40 --nodes 65535 --workers 1",
     )?;
-    let Command::Solve { plant, ask } = read_words(rt.alloc(), &most)?;
-    assert_eq!(rt; plant.as_str(), "a.json");
-    assert_eq!(rt; (ask.slots, ask.nodes, ask.workers), (40, 65535, 1));
+    assert!(rt; asks(&read_words(rt.alloc(), &most)?, "a.json", (40, 65535, 1)));
     let least = words(rt.alloc(), "solve a.json --slots 1 --nodes 0 --workers 1")?;
-    let Command::Solve { ask, .. } = read_words(rt.alloc(), &least)?;
-    assert_eq!(rt; (ask.slots, ask.nodes, ask.workers), (1, 0, 1));
+    assert!(rt; asks(&read_words(rt.alloc(), &least)?, "a.json", (1, 0, 1)));
+    Ok(())
+}
+
+#[test]
+fn reads_a_line_of_check(rt: HostRuntime) -> Result<(), Fail> {
+    let line = words(rt.alloc(), "check a.json b.txt")?;
+    let command = read_words(rt.alloc(), &line)?;
+    let Command::Check { plant, dossier } = &command else {
+        panic!(rt; "{command:?}");
+    };
+    assert_eq!(rt; plant.as_str(), "a.json");
+    assert_eq!(rt; dossier.as_str(), "b.txt");
     Ok(())
 }
 
@@ -33,10 +52,21 @@ fn solves_a_plant(rt: HostRuntime) -> Result<(), Fail> {
 
 #[test]
 fn solves_a_file(rt: HostRuntime) -> Result<(), Fail> {
-    let mut shelf = shelf(rt.alloc(), one_charge().as_bytes(), SOUND)?;
+    let mut shelf = shelf(rt.alloc(), one_charge().as_bytes(), b"", SOUND)?;
     let mut out = sink(rt.alloc(), SOUND)?;
     let status = solve_file_alone(rt.alloc(), "plant", 1, 0, &mut shelf, &mut out, &FreeGate);
     assert_eq!(rt; status.code(), 4);
     assert_eq!(rt; out.as_slice(), one_charge_open().as_bytes());
+    Ok(())
+}
+
+#[test]
+fn checks_a_file(rt: HostRuntime) -> Result<(), Fail> {
+    let alloc = rt.alloc();
+    let mut shelf = shelf(alloc, one_charge().as_bytes(), one_dual().as_bytes(), SOUND)?;
+    let mut out = sink(alloc, SOUND)?;
+    let status = check_files(alloc, "plant", "dossier", &mut shelf, &mut out);
+    assert_eq!(rt; status.code(), 0);
+    assert_eq!(rt; out.as_slice(), yes_of_twelve().as_bytes());
     Ok(())
 }

@@ -1,6 +1,6 @@
 //! What `solve` answers to the plant file that it reads.
 
-use super::runs::{Ended, Failing, SOUND, outcome};
+use super::runs::{Ended, Outside, SOUND, outcome};
 use super::samples::{one_charge, one_charge_open, two_inlets, two_vessels, with};
 use std::alloc::{AllocError, Global};
 use std::test::Fail;
@@ -64,7 +64,7 @@ fn cannot_read_what_is_not_there(rt: HostRuntime) -> Result<(), Fail> {
 
 #[test]
 fn tells_that_a_read_failed(rt: HostRuntime) -> Result<(), Fail> {
-    let failing = Failing { read: 1, write: 0 };
+    let failing = Outside { read: 1, ..SOUND };
     let ended = outcome(rt.alloc(), SOLVE, one_charge().as_bytes(), failing)?;
     assert!(rt; ended.is(66, "read failed 1\n"), "{ended:?}");
     Ok(())

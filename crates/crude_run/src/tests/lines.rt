@@ -23,6 +23,12 @@ fn refuses_words(rt: HostRuntime) -> Result<(), Fail> {
         "solve plant --slots 1 --nodes 65536 --workers 1",
         "solve plant --slots 1 --nodes 0 --workers 0",
         "solve plant --slots 1 --nodes 0 --workers 1 more",
+        "check",
+        "check plant",
+        "check -plant dossier",
+        "check plant -",
+        "check plant dossier more",
+        "Check plant dossier",
     ] {
         assert!(rt; is_refused(rt.alloc(), line)?, "{line}");
     }

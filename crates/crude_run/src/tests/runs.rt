@@ -1,11 +1,11 @@
-//! Runs over one plant file in memory, and how they end.
+//! Runs over files in memory, and how they end.
 
 use crate::*;
 use item_lists::Copies;
 use outer_edge::{CallList, FileList, FreeGate, MemoryShelf, MemorySink};
 use std::alloc::{AllocError, Global};
 
-/// The most bytes that a sink of these runs takes at a time.
+/// The most bytes that a sink of most runs takes at a time.
 pub const PIECE: u32 = 10;
 
 const ROOM: u32 = 16_777_216;
@@ -23,6 +23,11 @@ impl Ended {
         self.status == status && self.written.as_slice() == text.as_bytes()
     }
 
+    /// What it had written.
+    pub fn written(&self) -> &[u8] {
+        &self.written
+    }
+
     /// Whether it ended so, with a dossier of which these lines come behind the number of nodes.
     pub fn claims(&self, status: u8, lines: &str) -> bool {
         self.status == status
@@ -30,15 +35,21 @@ impl Ended {
     }
 }
 
-/// The call of the shelf and the call of the sink that fail, counted from 1; 0 is none.
+/// What lies outside a run: the call of the shelf and the call of the sink that fail, counted from 1, where 0 is
+/// none, and the most bytes that the sink takes at a time.
 #[derive(Clone, Copy)]
-pub struct Failing {
+pub struct Outside {
     pub read: u32,
     pub write: u32,
+    pub piece: u32,
 }
 
 /// No call fails.
-pub const SOUND: Failing = Failing { read: 0, write: 0 };
+pub const SOUND: Outside = Outside {
+    read: 0,
+    write: 0,
+    piece: PIECE,
+};
 
 /// The words of a line.
 pub fn words(alloc: Global, line: &str) -> Result<Vec<String>, AllocError> {
@@ -49,29 +60,46 @@ pub fn words(alloc: Global, line: &str) -> Result<Vec<String>, AllocError> {
     Ok(words)
 }
 
-/// A shelf with one file, `plant`, of which one call fails.
-pub fn shelf(alloc: Global, plant: &[u8], failing: Failing) -> Result<MemoryShelf, AllocError> {
+/// A shelf with two files, `plant` and `dossier`.
+pub fn shelf(
+    alloc: Global,
+    plant: &[u8],
+    dossier: &[u8],
+    outside: Outside,
+) -> Result<MemoryShelf, AllocError> {
     let mut files = FileList::new(alloc);
     files.push("plant", plant)?;
-    MemoryShelf::new(alloc, files, Copies::new(alloc, &[failing.read])?)
+    files.push("dossier", dossier)?;
+    MemoryShelf::new(alloc, files, Copies::new(alloc, &[outside.read])?)
 }
 
-/// A sink of which one call fails.
-pub fn sink(alloc: Global, failing: Failing) -> Result<MemorySink, AllocError> {
-    let calls = CallList::new(alloc, &[failing.write])?;
-    MemorySink::new(alloc, PIECE, ROOM, calls)
+/// A sink that takes pieces, each of a byte at least.
+pub fn sink(alloc: Global, outside: Outside) -> Result<MemorySink, AllocError> {
+    let calls = CallList::new(alloc, &[outside.write])?;
+    MemorySink::new(alloc, outside.piece.max(1), ROOM, calls)
 }
 
-/// How a run on this plant ends where such calls fail.
+/// How a run on this plant ends.
 pub fn outcome(
     alloc: Global,
     line: &str,
     plant: &[u8],
-    failing: Failing,
+    outside: Outside,
+) -> Result<Ended, AllocError> {
+    outcome_with(alloc, line, plant, b"", outside)
+}
+
+/// How a run on this plant and this dossier ends.
+pub fn outcome_with(
+    alloc: Global,
+    line: &str,
+    plant: &[u8],
+    dossier: &[u8],
+    outside: Outside,
 ) -> Result<Ended, AllocError> {
     let words = words(alloc, line)?;
-    let mut shelf = shelf(alloc, plant, failing)?;
-    let mut out = sink(alloc, failing)?;
+    let mut shelf = shelf(alloc, plant, dossier, outside)?;
+    let mut out = sink(alloc, outside)?;
     let status = run(alloc, &words, &mut shelf, &mut out, &FreeGate).code();
     let written = Vec::from_slice(alloc, out.as_slice())?;
     Ok(Ended { status, written })

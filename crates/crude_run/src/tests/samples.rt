@@ -55,6 +55,29 @@ pub fn one_charge_open() -> &'static str {
     ONE_CHARGE_OPEN
 }
 
+// A dossier on `one_charge`: the plan of four, and its bound by one leaf.
+const ONE_DUAL: &str =
+    "crude dossier 1\norder time\nslots 1\nnodes 0\nanswer plan\nmargin 12\nbound 12\nplan 1\nop 1 c1 0 2 4\ncuts 0\nnode 0 dual 1\nend\n";
+
+// The same with the root divided once.
+const SPLIT_ONCE: &str =
+    "crude dossier 1\norder time\nslots 1\nnodes 1\nanswer plan\nmargin 12\nbound 12\nplan 1\nop 1 c1 0 2 4\ncuts 0\nnode 0 split 0 1 ops 1\nnode 1 dual 1\nnode 2 point\nend\n";
+
+// What `check` answers to both.
+const YES_OF_TWELVE: &str = "yes\nanswer plan\nmargin 12\nbound 12\n";
+
+pub fn one_dual() -> &'static str {
+    ONE_DUAL
+}
+
+pub fn split_once() -> &'static str {
+    SPLIT_ONCE
+}
+
+pub fn yes_of_twelve() -> &'static str {
+    YES_OF_TWELVE
+}
+
 /// The text with another part in the place of the first such part.
 pub fn with(alloc: Global, text: &str, part: &str, other: &str) -> Result<String, Fail> {
     let (before, after) = text.split_once(part).ok_or("the part stands in the text")?;

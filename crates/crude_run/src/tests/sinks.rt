@@ -1,6 +1,6 @@
 //! What stands in the sink where one of its calls fails.
 
-use super::runs::{Ended, Failing, PIECE, outcome};
+use super::runs::{Ended, Outside, PIECE, SOUND, outcome};
 use super::samples::{one_charge, one_charge_open};
 use std::alloc::{AllocError, Global};
 use std::test::Fail;
@@ -8,9 +8,9 @@ use std::test::Fail;
 // A run on `one_charge` where this call of the sink fails.
 fn failed_at(alloc: Global, call: u32) -> Result<Ended, AllocError> {
     let line = "solve plant --slots 1 --nodes 0 --workers 1";
-    let failing = Failing {
-        read: 0,
+    let failing = Outside {
         write: call,
+        ..SOUND
     };
     outcome(alloc, line, one_charge().as_bytes(), failing)
 }
@@ -42,7 +42,11 @@ fn needs_no_further_call(rt: HostRuntime) -> Result<(), Fail> {
 #[test]
 fn keeps_the_first_piece_of_a_refusal(rt: HostRuntime) -> Result<(), Fail> {
     let line = "solve plant --slots 1 --nodes 0 --workers 1";
-    let failing = Failing { read: 1, write: 2 };
+    let failing = Outside {
+        read: 1,
+        write: 2,
+        ..SOUND
+    };
     let ended = outcome(rt.alloc(), line, one_charge().as_bytes(), failing)?;
     assert!(rt; ended.is(74, "read faile"), "{ended:?}");
     Ok(())

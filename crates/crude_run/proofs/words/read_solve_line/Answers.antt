@@ -1,7 +1,7 @@
 use Rattle.std.proofs.Common.{◌≡◌, length, arith, true, sym, ◌∙◌, string_bytes}
 use Rattle.crude_run.specs.WordReading.{is_solve}
 use Rattle.crude_run.proofs.WordLaws.{eight_words, line_found, line_none}
-use Rattle.crude_run.proofs.words.read_line.Goals as goal
+use Rattle.crude_run.proofs.words.read_solve_line.Goals as goal
 
 pub returns-else-not-named-clause-found : goal.returns-else-not-named-clause-found
 returns-else-not-named-clause-found c =

@@ -1,0 +1,80 @@
+-- What the reads of a command may have given, carried over its other reads.
+use Rattle.std.proofs.Common.{◌≡◌, ◌≤◌, ℕ, List, Option, Result, Ok, Err, sym, subst, arith}
+use Rattle.plant_model.specs.declared.parts.Parts.{Parts}
+use Rattle.plant_text.specs.declared.fault.PlantTextFault.{PlantTextFault}
+use Rattle.plant_text.specs.declared.fault.PlantTextFault.TheVariants as fault
+use Rattle.plant_text.specs.PlantText.{plant_of}
+use Rattle.crude_run.specs.declared.answer.Answer.{Answer}
+use Rattle.crude_run.specs.declared.files.TheConstants.{PLANT_LIMIT}
+use Rattle.crude_run.specs.declared.opening.Stop.{Stop}
+use Rattle.crude_run.specs.declared.opening.Stop.TheVariants as stop
+use Rattle.crude_run.specs.Files.{Files, FileRead, bytes, failed, longer, MayGive, files_between}
+use Rattle.crude_run.specs.Answered.{OfPlant, OfRead, OfFile, OfPlantFile}
+use Rattle.crude_run.specs.Stopping.{OnStop, IfStopped, Nowhere, MayGivePlant, IsLater}
+
+-- ---- where no answer comes of what is read, none is missing
+
+plant_anywhere : (Goes : Parts → Answer → Type 0) (read : Result Parts PlantTextFault) (answer : Answer) → OfPlant Nowhere read answer → OfPlant Goes read answer
+plant_anywhere Goes (Ok parts) answer owed = absurd owed
+plant_anywhere Goes (Err fault.Json) answer owed = owed
+plant_anywhere Goes (Err (fault.Shape place)) answer owed = owed
+plant_anywhere Goes (Err (fault.Plant found)) answer owed = owed
+plant_anywhere Goes (Err (fault.NotYet section)) answer owed = owed
+plant_anywhere Goes (Err fault.Memory) answer owed = owed
+
+read_anywhere : (number : ℕ) (Goes : List ℕ → Answer → Type 0) (read : FileRead) (answer : Answer) → OfRead number Nowhere read answer → OfRead number Goes read answer
+read_anywhere number Goes (bytes found) answer owed = absurd owed
+read_anywhere number Goes failed answer owed = owed
+read_anywhere number Goes longer answer owed = owed
+
+-- a plant file that has stopped a command
+pub stopped_plant : (files : Files) (name : List ℕ) (Goes : Parts → Answer → Type 0) (stopped : Stop) → OnStop stopped (OfPlantFile files name Nowhere) → OnStop stopped (OfPlantFile files name Goes)
+stopped_plant files name Goes (stop.Due answer) (bytes found, may, owed) = (bytes found, may, plant_anywhere Goes (plant_of found) answer owed)
+stopped_plant files name Goes (stop.Due answer) (failed, may, owed) = (failed, may, owed)
+stopped_plant files name Goes (stop.Due answer) (longer, may, owed) = (longer, may, owed)
+stopped_plant files name Goes stop.Memory owed = tt
+
+-- the answer where the text of the plant file has stopped a command
+pub stopped_text : {X : Type 0} (files : Files) (name found : List ℕ) (made : Result X Stop) → MayGive files name PLANT_LIMIT (bytes found) → IfStopped made (OfPlant Nowhere (plant_of found)) → IfStopped made (OfPlantFile files name Nowhere)
+stopped_text files name found (Ok x) may owed = tt
+stopped_text files name found (Err (stop.Due answer)) may owed = (bytes found, may, owed)
+stopped_text files name found (Err stop.Memory) may owed = tt
+
+-- the answer to a plant that the plant file may have given
+pub of_plant : (files : Files) (name : List ℕ) (parts : Parts) (Goes : Parts → Answer → Type 0) (answer : Answer) → MayGivePlant files name parts → Goes parts answer → OfPlantFile files name Goes answer
+of_plant files name parts Goes answer given owed =
+    (bytes given.file, given.may, subst (λ read. OfPlant Goes read answer) (sym given.is) owed)
+
+-- ---- two reads
+
+module _ {Shelf : Type 0} (told : Shelf → List ℕ → Option (List ℕ)) (faults : Shelf → List ℕ → ℕ) (longs : Shelf → List ℕ → ℕ → ℕ) (before between after : Shelf) where
+  -- what an earlier read may have given
+  may_until : IsLater told faults longs between after → (name : List ℕ) (limit : ℕ) (read : FileRead)
+      → MayGive (files_between told faults longs before between) name limit read → MayGive (files_between told faults longs before after) name limit read
+  may_until later name limit (bytes found) may = may
+  may_until later name limit failed may = let stay = later.faults_stay name in omega arith
+  may_until later name limit longer may = (let stay = later.longs_stay name limit in let rose = may.0 in omega arith, may.1)
+
+  -- what a later read may have given
+  may_since : IsLater told faults longs before between → (name : List ℕ) (limit : ℕ) (read : FileRead)
+      → MayGive (files_between told faults longs between after) name limit read → MayGive (files_between told faults longs before after) name limit read
+  may_since later name limit (bytes found) may = rw (← later.told_stays) may
+  may_since later name limit failed may = let stay = later.faults_stay name in omega arith
+  may_since later name limit longer may = (let stay = later.longs_stay name limit in let rose = may.0 in omega arith, rw (← later.told_stays) may.1)
+
+  -- a plant of the first read, and then the answer to the second file
+  pub of_both : IsLater told faults longs before between → IsLater told faults longs between after → (name : List ℕ) (parts : Parts) → MayGivePlant (files_between told faults longs before between) name parts
+      → (other : List ℕ) (limit : ℕ) (Goes : Parts → List ℕ → Answer → Type 0) (answer : Answer) → OfFile (files_between told faults longs between after) 2 other limit (Goes parts) answer
+      → OfPlantFile (files_between told faults longs before after) name (λ plant. OfFile (files_between told faults longs before after) 2 other limit (Goes plant)) answer
+  of_both first second name parts given other limit Goes answer (read, may, owed) =
+      of_plant (files_between told faults longs before after) name parts _ answer
+      (record { file = given.file; may = may_until second name PLANT_LIMIT (bytes given.file) given.may; is = given.is })
+      (read, may_since first other limit read may, owed)
+
+  -- a second file that has stopped a command
+  pub stopped_both : IsLater told faults longs before between → IsLater told faults longs between after → (name : List ℕ) (parts : Parts) → MayGivePlant (files_between told faults longs before between) name parts
+      → (other : List ℕ) (limit : ℕ) (Goes : Parts → List ℕ → Answer → Type 0) (stopped : Stop) → OnStop stopped (OfFile (files_between told faults longs between after) 2 other limit Nowhere)
+      → OnStop stopped (OfPlantFile (files_between told faults longs before after) name (λ plant. OfFile (files_between told faults longs before after) 2 other limit (Goes plant)))
+  stopped_both first second name parts given other limit Goes (stop.Due answer) (read, may, owed) =
+      of_both first second name parts given other limit Goes answer (read, may, read_anywhere 2 (Goes parts) read answer owed)
+  stopped_both first second name parts given other limit Goes stop.Memory owed = tt

@@ -1,0 +1,89 @@
+//! The files of a command, read in their order, and why a command goes no further.
+
+ghost use Rattle.std.specs.Prelude.{◌≡◌, Ok, IfOk};
+ghost use Rattle.plant_text.specs.PlantText.{plant_of};
+ghost use Rattle.crude_run.specs.Files.{files_between, bytes, MayGive};
+ghost use Rattle.crude_run.specs.Answered.{OfPlant, OfFile, OfPlantFile};
+ghost use Rattle.crude_run.specs.Stopping.{IfStopped, Nowhere, MayGivePlant, IsLater, stop_of};
+
+use crate::answer::{Answer, not_yet, plant_refused, read_failed, too_long};
+use crate::files::PLANT_LIMIT;
+use outer_edge::{Shelf, ShelfFault};
+use plant_model::Plant;
+use plant_text::{PlantTextFault, read_plant};
+use std::alloc::{AllocError, Global};
+
+/// Why a command goes no further.
+#[derive(Debug, Drop)]
+pub(crate) enum Stop {
+    /// This answer is due.
+    Due(Answer),
+    /// Memory ran out.
+    Memory,
+}
+
+impl From<AllocError> for Stop {
+    ghost use Rattle.std.specs.Prelude.{◌≡◌};
+    ghost use Rattle.crude_run.specs.declared.opening.Stop.TheVariants.{Memory};
+
+    ghost from_gives = { λ _ stop. stop ≡ Memory };
+
+    fn from(_refused: AllocError) -> Stop {
+        Stop::Memory
+    }
+}
+
+/// Stops with the answer, if there was memory for it.
+pub(crate) fn stop_with(answer: Result<Answer, AllocError>) -> Stop
+    ensures { result ≡ stop_of answer }
+{
+    match answer {
+        Ok(answer) => Stop::Due(answer),
+        Err(AllocError) => Stop::Memory,
+    }
+}
+
+/// The bytes of the command's file of this number, counted from 1.
+pub(crate) fn open_file<H: Shelf>(
+    alloc: Global,
+    number: u64,
+    name: &str,
+    limit: u64,
+    shelf: &mut H,
+) -> Result<Vec<u8>, Stop>
+    ensures read { IfOk result (λ file. MayGive (files_between H.told H.faults H.longs shelf.old shelf.new) name.now limit (bytes file.items)) }
+    ensures stopped { IfStopped result (OfFile (files_between H.told H.faults H.longs shelf.old shelf.new) number name.now limit Nowhere) }
+    ensures later { IsLater H.told H.faults H.longs shelf.old shelf.new }
+{
+    match shelf.read(alloc, name, limit) {
+        Ok(bytes) => Ok(bytes),
+        Err(ShelfFault::Failed) => Err(stop_with(read_failed(alloc, number))),
+        Err(ShelfFault::TooLong) => Err(stop_with(too_long(alloc, number))),
+        Err(ShelfFault::Memory) => Err(Stop::Memory),
+    }
+}
+
+/// The plant of a plant text.
+fn plant_of_text(alloc: Global, text: &[u8]) -> Result<Plant, Stop>
+    ensures plant { IfOk result (λ plant. plant_of text.now ≡ Ok plant) }
+    ensures stopped { IfStopped result (OfPlant Nowhere (plant_of text.now)) }
+{
+    match read_plant(alloc, text) {
+        Ok(plant) => Ok(plant),
+        Err(PlantTextFault::Json | PlantTextFault::Shape(_) | PlantTextFault::Plant(_)) => {
+            Err(stop_with(plant_refused(alloc)))
+        }
+        Err(PlantTextFault::NotYet(section)) => Err(stop_with(not_yet(alloc, section))),
+        Err(PlantTextFault::Memory) => Err(Stop::Memory),
+    }
+}
+
+/// The plant of the plant file, which every command names first.
+pub(crate) fn open_plant<H: Shelf>(alloc: Global, name: &str, shelf: &mut H) -> Result<Plant, Stop>
+    ensures plant { IfOk result (MayGivePlant (files_between H.told H.faults H.longs shelf.old shelf.new) name.now) }
+    ensures stopped { IfStopped result (OfPlantFile (files_between H.told H.faults H.longs shelf.old shelf.new) name.now Nowhere) }
+    ensures later { IsLater H.told H.faults H.longs shelf.old shelf.new }
+{
+    let text = open_file(alloc, 1, name, PLANT_LIMIT, shelf)?;
+    plant_of_text(alloc, &text)
+}

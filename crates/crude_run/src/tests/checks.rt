@@ -1,0 +1,192 @@
+//! What `check` answers, of `one_charge` and the dossiers on it.
+
+use super::runs::{Ended, Outside, SOUND, outcome, outcome_with};
+use super::samples::{one_charge, one_dual, split_once, two_inlets, with, yes_of_twelve};
+use std::alloc::{AllocError, Global};
+use std::test::Fail;
+
+const CHECK: &str = "check plant dossier";
+
+fn checked(alloc: Global, dossier: &[u8]) -> Result<Ended, AllocError> {
+    outcome_with(alloc, CHECK, one_charge().as_bytes(), dossier, SOUND)
+}
+
+#[test]
+fn says_yes_of_one_dual(rt: HostRuntime) -> Result<(), Fail> {
+    let ended = checked(rt.alloc(), one_dual().as_bytes())?;
+    assert!(rt; ended.is(0, yes_of_twelve()), "{ended:?}");
+    Ok(())
+}
+
+#[test]
+fn says_yes_of_split_once(rt: HostRuntime) -> Result<(), Fail> {
+    let ended = checked(rt.alloc(), split_once().as_bytes())?;
+    assert!(rt; ended.is(0, yes_of_twelve()), "{ended:?}");
+    Ok(())
+}
+
+#[test]
+fn says_yes_of_what_solve_writes(rt: HostRuntime) -> Result<(), Fail> {
+    let line = "solve plant --slots 1 --nodes 45 --workers 1";
+    let solved = outcome(rt.alloc(), line, one_charge().as_bytes(), SOUND)?;
+    let ended = checked(rt.alloc(), solved.written())?;
+    assert!(rt; ended.is(0, yes_of_twelve()), "{ended:?}");
+    Ok(())
+}
+
+// A part of the dossier, what stands in its place, and what is answered.
+type Case = (&'static str, &'static str, &'static str);
+
+fn single_box_cases() -> &'static [Case] {
+    &[
+        ("bound 12", "bound 11", "no 15 7\n"),
+        ("bound 12", "bound 13", "no 15 7\n"),
+        ("dual 1", "dual 1 1.1.0.0.0=4294967297", "no 9 11\n"),
+        ("c1 0 2 4", "c1 0 1 3", "no 17 9\n"),
+        ("c1 0 2 4", "c1 0 2 3", "no 18 6\n"),
+        ("answer plan", "answer infeasible", "no 16 5\n"),
+    ]
+}
+
+fn divided_box_cases() -> &'static [Case] {
+    &[
+        ("node 1 dual 1\n", "", "no 1 12\n"),
+        ("split 0 1 ops", "split 1 1 ops", "no 4 11\n"),
+        ("1 dual 1", "1 split 0 1 volume 4", "no 4 12\n"),
+        ("1 dual 1", "1 point", "no 8 12\n"),
+        ("2 point", "2 dead 1", "no 7 13\n"),
+    ]
+}
+
+/// Whether the dossier with the other part is answered so.
+fn is_refused(alloc: Global, file: &str, case: Case) -> Result<bool, Fail> {
+    let (part, other, answer) = case;
+    let changed = with(alloc, file, part, other)?;
+    Ok(checked(alloc, changed.as_bytes())?.is(1, answer))
+}
+
+#[test]
+fn says_no_of_a_single_box(rt: HostRuntime) -> Result<(), Fail> {
+    for case in single_box_cases() {
+        assert!(rt; is_refused(rt.alloc(), one_dual(), *case)?, "{case:?}");
+    }
+    Ok(())
+}
+
+#[test]
+fn says_no_of_a_divided_box(rt: HostRuntime) -> Result<(), Fail> {
+    for case in divided_box_cases() {
+        assert!(rt; is_refused(rt.alloc(), split_once(), *case)?, "{case:?}");
+    }
+    Ok(())
+}
+
+/// Whether `one_dual` without this line and those below it is refused at it.
+fn misses_line(alloc: Global, line: u32) -> Result<bool, Fail> {
+    let mut cut = String::new(alloc);
+    let kept = (line as usize).saturating_sub(1);
+    for part in one_dual().split_inclusive('\n').take(kept) {
+        cut.push_str(part)?;
+    }
+    let answer = format!(in alloc; "no 1 {line}\n")?;
+    Ok(checked(alloc, cut.as_bytes())?.is(1, answer.as_str()))
+}
+
+#[test]
+fn misses_the_next_line(rt: HostRuntime) -> Result<(), Fail> {
+    for line in 1..=12 {
+        assert!(rt; misses_line(rt.alloc(), line)?, "{line}");
+    }
+    Ok(())
+}
+
+// The plant is refused before the dossier is read.
+#[test]
+fn refuses_the_plant_first(rt: HostRuntime) -> Result<(), Fail> {
+    let ended = outcome(rt.alloc(), "check dossier other", b"", SOUND)?;
+    assert!(rt; ended.is(65, "refused plant\n"), "{ended:?}");
+    let ended = outcome(
+        rt.alloc(),
+        "check plant other",
+        two_inlets().as_bytes(),
+        SOUND,
+    )?;
+    assert!(rt; ended.is(69, "not yet storage\n"), "{ended:?}");
+    Ok(())
+}
+
+/// How `check` of `one_dual` ends where this is outside.
+fn ended_by(alloc: Global, line: &str, outside: Outside) -> Result<Ended, AllocError> {
+    let plant = one_charge().as_bytes();
+    outcome_with(alloc, line, plant, one_dual().as_bytes(), outside)
+}
+
+#[test]
+fn tells_which_read_failed(rt: HostRuntime) -> Result<(), Fail> {
+    for (line, read, answer) in [
+        (CHECK, 1, "read failed 1\n"),
+        (CHECK, 2, "read failed 2\n"),
+        ("check plant other", 0, "read failed 2\n"),
+        ("check other dossier", 0, "read failed 1\n"),
+    ] {
+        let outside = Outside {
+            read,
+            piece: 4096,
+            ..SOUND
+        };
+        let ended = ended_by(rt.alloc(), line, outside)?;
+        assert!(rt; ended.is(66, answer), "{line}: {ended:?}");
+    }
+    Ok(())
+}
+
+#[test]
+fn writes_byte_by_byte(rt: HostRuntime) -> Result<(), Fail> {
+    let outside = Outside { piece: 1, ..SOUND };
+    let ended = ended_by(rt.alloc(), CHECK, outside)?;
+    assert!(rt; ended.is(0, yes_of_twelve()), "{ended:?}");
+    Ok(())
+}
+
+// The first so many bytes of the answer.
+fn bytes(count: u32) -> &'static str {
+    let text = yes_of_twelve();
+    text.get(..count as usize).unwrap_or(text)
+}
+
+#[test]
+fn keeps_the_bytes_before_a_fault(rt: HostRuntime) -> Result<(), Fail> {
+    for write in 1..=35 {
+        let outside = Outside {
+            write,
+            piece: 1,
+            ..SOUND
+        };
+        let ended = ended_by(rt.alloc(), CHECK, outside)?;
+        assert!(rt;
+            ended.is(74, bytes(write - 1)),
+            "at call {write}: {ended:?}"
+        );
+    }
+    Ok(())
+}
+
+#[test]
+fn keeps_the_pieces_before_a_fault(rt: HostRuntime) -> Result<(), Fail> {
+    let ended = ended_by(rt.alloc(), CHECK, Outside { write: 3, ..SOUND })?;
+    assert!(rt; ended.is(74, "yes\nanswer plan\nmarg"), "{ended:?}");
+    Ok(())
+}
+
+// Reading and writing fail.
+#[test]
+fn writes_nothing_where_all_fails(rt: HostRuntime) -> Result<(), Fail> {
+    let outside = Outside {
+        read: 1,
+        write: 1,
+        ..SOUND
+    };
+    let ended = ended_by(rt.alloc(), CHECK, outside)?;
+    assert!(rt; ended.is(74, ""), "{ended:?}");
+    Ok(())
+}
