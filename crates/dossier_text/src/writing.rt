@@ -104,9 +104,9 @@ fn write_cut_lines(out: &mut Vec<u8>, cuts: &[CutLine]) -> Result<(), AllocError
     write_cuts(out, cuts)
 }
 
-#[tactic(auto, using(crate::proofs::Joining::dossier_bytes_in_parts))]
 /// The text of the dossier. Only a dossier whose counts and numbers are in range and whose names are
 /// names is read again as what it was.
+#[tactic(auto, using(crate::proofs::Joining::dossier_bytes_in_parts))]
 pub fn write_dossier(alloc: Global, dossier: &Dossier) -> Result<Vec<u8>, AllocError>
     ensures { IfOk result (λ text. text.items ≡ dossier_bytes dossier.now) }
 {
