@@ -1,79 +1,28 @@
 use crate::{Found, search_boxes};
-use item_lists::{Copies, Items};
 use outer_edge::FreeGate;
-use plant_model::{CrudePart, Name, OperationPart, Pair, Parts, Plant, TankPart, UnitPart};
+use plant_model::{Pair, Plant};
 use replay_core::Timed;
-use std::alloc::{AllocError, Global};
+use sample_plants::{OneCharge, one_charge};
+use std::alloc::Global;
 use std::test::Fail;
 
-fn name(alloc: Global, text: &str) -> Result<Name, AllocError> {
-    Copies::new(alloc, text.as_bytes())
-}
-
-fn crude(alloc: Global) -> Result<CrudePart, AllocError> {
-    Ok(CrudePart {
-        name: name(alloc, "A")?,
-        margin: 3,
-        properties: Copies::new(alloc, &[])?,
-    })
-}
-
-fn tank(alloc: Global) -> Result<TankPart, AllocError> {
-    Ok(TankPart {
-        name: name(alloc, "C1")?,
-        min: 0,
-        max: 10,
-        amounts: Copies::new(alloc, &[4])?,
-        demand: Pair {
-            lo: 0,
-            hi: 10_000_000,
-        },
-    })
-}
-
-fn unit(alloc: Global, charges: i64) -> Result<UnitPart, AllocError> {
-    Ok(UnitPart {
-        name: name(alloc, "U")?,
-        continuous: false,
+/// The plant with one charge, which is to run at least so often.
+fn plant(alloc: Global, charges: i64) -> Result<Plant, Fail> {
+    let parts = OneCharge {
         charges: Pair {
             lo: charges,
             hi: 40,
         },
-    })
-}
-
-/// At most two volume units in a minute.
-fn charge(alloc: Global) -> Result<OperationPart, AllocError> {
-    Ok(OperationPart {
-        name: name(alloc, "c1")?,
-        from: name(alloc, "C1")?,
-        to: name(alloc, "U")?,
-        rate: Pair { lo: 0, hi: 2880 },
-        volume: Pair { lo: 1, hi: 4 },
-        window: Pair { lo: 0, hi: 2 },
-        limits: Items::new(alloc),
-    })
-}
-
-/// One charging tank, one unit, and the charge between them, which is to run at least so often.
-fn one_charge(alloc: Global, charges: i64) -> Result<Plant, Fail> {
-    let parts = Parts {
-        horizon: 2,
-        properties: Items::new(alloc),
-        crudes: Items::from_vec(vec![in alloc; crude(alloc)?]?),
-        vessels: Items::new(alloc),
-        storage: Items::new(alloc),
-        charging: Items::from_vec(vec![in alloc; tank(alloc)?]?),
-        units: Items::from_vec(vec![in alloc; unit(alloc, charges)?]?),
-        operations: Items::from_vec(vec![in alloc; charge(alloc)?]?),
-    };
+        ..one_charge()
+    }
+    .parts(alloc)?;
     Ok(Plant::new(alloc, parts)?)
 }
 
 // The root box of one slot has 46 points: an idle slot, or the charge of a volume from 0 to 4 that starts in
 // one of three minutes and ends in one of three.
 fn searched(alloc: Global, charges: i64, budget: u16) -> Result<Found, Fail> {
-    let plant = one_charge(alloc, charges)?;
+    let plant = plant(alloc, charges)?;
     Ok(search_boxes(alloc, &plant, 1, u32::from(budget), &FreeGate)?)
 }
 

@@ -1,4 +1,3 @@
 mod cases;
-mod plants;
 mod samples;
 mod verdicts;

@@ -1,72 +1,12 @@
 use crate::{form_laws, plain_value, point_value};
-use item_lists::{Copies, Items};
-use plant_model::{CrudePart, Name, OperationPart, Pair, Parts, Plant, TankPart, UnitPart};
+use plant_model::Plant;
+use sample_plants::one_charge;
 use slot_box::{SlotBox, Split, SplitFault, SplitKind};
 use std::alloc::{AllocError, Global};
 use std::test::Fail;
 
-fn name(alloc: Global, text: &str) -> Result<Name, AllocError> {
-    Copies::new(alloc, text.as_bytes())
-}
-
-fn crude(alloc: Global) -> Result<CrudePart, AllocError> {
-    Ok(CrudePart {
-        name: name(alloc, "A")?,
-        margin: 3,
-        properties: Copies::new(alloc, &[])?,
-    })
-}
-
-fn tank(alloc: Global) -> Result<TankPart, AllocError> {
-    Ok(TankPart {
-        name: name(alloc, "C1")?,
-        min: 0,
-        max: 10,
-        amounts: Copies::new(alloc, &[4])?,
-        demand: Pair {
-            lo: 0,
-            hi: 10_000_000,
-        },
-    })
-}
-
-fn unit(alloc: Global) -> Result<UnitPart, AllocError> {
-    Ok(UnitPart {
-        name: name(alloc, "U")?,
-        continuous: false,
-        charges: Pair { lo: 0, hi: 40 },
-    })
-}
-
-/// At most two volume units in a minute.
-fn charge(alloc: Global) -> Result<OperationPart, AllocError> {
-    Ok(OperationPart {
-        name: name(alloc, "c1")?,
-        from: name(alloc, "C1")?,
-        to: name(alloc, "U")?,
-        rate: Pair { lo: 0, hi: 2880 },
-        volume: Pair { lo: 1, hi: 4 },
-        window: Pair { lo: 0, hi: 2 },
-        limits: Items::new(alloc),
-    })
-}
-
-/// One charging tank, one unit, and the charge between them.
-fn one_charge(alloc: Global) -> Result<Parts, AllocError> {
-    Ok(Parts {
-        horizon: 2,
-        properties: Items::new(alloc),
-        crudes: Items::from_vec(vec![in alloc; crude(alloc)?]?),
-        vessels: Items::new(alloc),
-        storage: Items::new(alloc),
-        charging: Items::from_vec(vec![in alloc; tank(alloc)?]?),
-        units: Items::from_vec(vec![in alloc; unit(alloc)?]?),
-        operations: Items::from_vec(vec![in alloc; charge(alloc)?]?),
-    })
-}
-
 fn plant(alloc: Global) -> Result<Plant, Fail> {
-    Ok(Plant::new(alloc, one_charge(alloc)?)?)
+    Ok(Plant::new(alloc, one_charge().parts(alloc)?)?)
 }
 
 /// The root box of one slot.

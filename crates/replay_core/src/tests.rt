@@ -1,2 +1,1 @@
-mod plants;
 mod replays;

@@ -1,11 +1,15 @@
 use super::cases::{divided_box_cases, single_box_cases};
-use super::plants::one_charge;
 use super::samples::{falling_tickets, one_dual, seven_splits, split_once, with};
 use crate::{Verdict, check};
 use dossier_text::Word3;
-use plant_model::Plant;
+use plant_model::{Pair, Plant};
+use sample_plants::{OneCharge, one_charge};
 use std::alloc::{AllocError, Global};
 use std::test::Fail;
+
+fn plant(alloc: Global, sample: OneCharge) -> Result<Plant, Fail> {
+    Ok(Plant::new(alloc, sample.parts(alloc)?)?)
+}
 
 /// The word of an answer.
 fn word(answer: Word3) -> &'static str {
@@ -60,7 +64,7 @@ fn misses_line(alloc: Global, plant: &Plant, file: &str, line: u32) -> Result<bo
 #[test]
 fn accepts_what_is_so(rt: HostRuntime) -> Result<(), Fail> {
     let alloc = rt.alloc();
-    let plant = one_charge(alloc, 3, 0)?;
+    let plant = plant(alloc, one_charge())?;
     assert!(rt; is_told(alloc, &plant, one_dual(), "yes plan 1 1 12 12")?);
     assert!(rt; is_told(alloc, &plant, split_once(), "yes plan 1 1 12 12")?);
     assert!(rt; is_told(alloc, &plant, falling_tickets(), "yes open 1 0 -1 12")?);
@@ -70,7 +74,7 @@ fn accepts_what_is_so(rt: HostRuntime) -> Result<(), Fail> {
 #[test]
 fn misses_the_next_line(rt: HostRuntime) -> Result<(), Fail> {
     let alloc = rt.alloc();
-    let plant = one_charge(alloc, 3, 0)?;
+    let plant = plant(alloc, one_charge())?;
     for line in 1..=12 {
         assert!(rt;
             misses_line(alloc, &plant, one_dual(), line)?,
@@ -83,7 +87,7 @@ fn misses_the_next_line(rt: HostRuntime) -> Result<(), Fail> {
 #[test]
 fn names_the_first_reason_of_a_single_box(rt: HostRuntime) -> Result<(), Fail> {
     let alloc = rt.alloc();
-    let plant = one_charge(alloc, 3, 0)?;
+    let plant = plant(alloc, one_charge())?;
     for case in single_box_cases() {
         assert!(rt; is_told_with(alloc, &plant, one_dual(), *case)?, "{case:?}");
     }
@@ -93,7 +97,7 @@ fn names_the_first_reason_of_a_single_box(rt: HostRuntime) -> Result<(), Fail> {
 #[test]
 fn names_the_first_reason_of_a_divided_box(rt: HostRuntime) -> Result<(), Fail> {
     let alloc = rt.alloc();
-    let plant = one_charge(alloc, 3, 0)?;
+    let plant = plant(alloc, one_charge())?;
     for case in divided_box_cases() {
         assert!(rt;
             is_told_with(alloc, &plant, split_once(), *case)?,
@@ -106,7 +110,7 @@ fn names_the_first_reason_of_a_divided_box(rt: HostRuntime) -> Result<(), Fail> 
 #[test]
 fn finds_a_ticket_that_is_held_twice(rt: HostRuntime) -> Result<(), Fail> {
     let alloc = rt.alloc();
-    let plant = one_charge(alloc, 3, 0)?;
+    let plant = plant(alloc, one_charge())?;
     let case = ("split 1 1", "split 2 1", "no 4 12");
     assert!(rt; is_told_with(alloc, &plant, falling_tickets(), case)?);
     Ok(())
@@ -115,7 +119,7 @@ fn finds_a_ticket_that_is_held_twice(rt: HostRuntime) -> Result<(), Fail> {
 // Of its boxes of one point one is no legal plan, and has no value.
 #[test]
 fn accepts_what_a_search_writes(rt: HostRuntime) -> Result<(), Fail> {
-    let plant = one_charge(rt.alloc(), 3, 0)?;
+    let plant = plant(rt.alloc(), one_charge())?;
     assert!(rt; is_told(rt.alloc(), &plant, seven_splits(), "yes plan 1 1 12 12")?);
     Ok(())
 }
@@ -123,14 +127,22 @@ fn accepts_what_a_search_writes(rt: HostRuntime) -> Result<(), Fail> {
 // The plan breaks a rule on its end.
 #[test]
 fn names_the_line_of_the_plan(rt: HostRuntime) -> Result<(), Fail> {
-    let plant = one_charge(rt.alloc(), 3, 2)?;
+    let twice = OneCharge {
+        charges: Pair { lo: 2, hi: 40 },
+        ..one_charge()
+    };
+    let plant = plant(rt.alloc(), twice)?;
     assert!(rt; is_told(rt.alloc(), &plant, one_dual(), "no 17 8")?);
     Ok(())
 }
 
 #[test]
 fn bounds_a_dearer_charge(rt: HostRuntime) -> Result<(), Fail> {
-    let plant = one_charge(rt.alloc(), 4, 0)?;
+    let dearer = OneCharge {
+        margin: 4,
+        ..one_charge()
+    };
+    let plant = plant(rt.alloc(), dearer)?;
     assert!(rt; is_told(rt.alloc(), &plant, one_dual(), "no 15 7")?);
     Ok(())
 }

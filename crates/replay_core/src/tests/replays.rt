@@ -1,9 +1,9 @@
 ghost use Rattle.std.specs.Prelude.{◌<◌};
 ghost use Rattle.plant_model.specs.Parts.{place_count_of};
 
-use crate::tests::plants::one_charge;
 use crate::{Broken, Replay, ReplayFault, Timed, replay};
 use plant_model::{Pair, Plant};
+use sample_plants::{OneCharge, one_charge};
 use std::alloc::Global;
 use std::process::Abort;
 use std::test::Fail;
@@ -39,8 +39,13 @@ fn assert_replays(
 }
 
 fn sample(alloc: Global, rate: Pair, continuous: bool) -> Result<Plant, Fail> {
-    let any = Pair { lo: 0, hi: 40 };
-    Ok(Plant::new(alloc, one_charge(alloc, rate, any, continuous)?)?)
+    let parts = OneCharge {
+        rate,
+        continuous,
+        ..one_charge()
+    }
+    .parts(alloc)?;
+    Ok(Plant::new(alloc, parts)?)
 }
 
 #[test]
