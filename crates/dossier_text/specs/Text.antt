@@ -24,7 +24,7 @@ format_lines = (codes "crude" ∷ codes "dossier" ∷ codes "1" ∷ []) ∷ (cod
 unfoldable pub size_lines : ℕ → ℕ → List (List (List ℕ))
 size_lines slots nodes = (codes "slots" ∷ decimal slots ∷ []) ∷ (codes "nodes" ∷ decimal nodes ∷ []) ∷ []
 
--- what is claimed: the answer, the plan's margin, and a bound on every plan's
+-- what is claimed of the plans of at most so many operations as there are slots: the answer, the plan's margin, and a bound
 unfoldable pub claim_lines : Word3 → Option ℤ → Option ℤ → List (List (List ℕ))
 claim_lines answer margin bound =
     (codes "answer" ∷ answer_word answer ∷ [])

@@ -36,7 +36,7 @@ pub struct Dossier {
     pub answer: Word3,
     /// The plan's, in money.
     pub margin: Option<i64>,
-    /// On every plan's margin.
+    /// On the margin of every legal plan of at most so many operations as there are slots.
     pub bound: Option<i64>,
     pub plan: Option<OpLines>,
     pub cuts: CutLines,

@@ -53,7 +53,7 @@ only_entry s = running (fixed_of s) s
 abbrev pub only_point : List Slot → List Entry
 only_point slots = map only_entry slots
 
--- the operations of the longest list of first slots that are each fixed to one
+-- the operations to which the slots are fixed one after the other, as far as the first that is not fixed
 abbrev pub fixed_prefix : List Slot → List ℕ
 fixed_prefix [] = []
 fixed_prefix (s ∷ slots) = prefix_from (fixed_of s) (fixed_prefix slots)

@@ -111,7 +111,7 @@ impl SlotBox {
         self.points() == 1
     }
 
-    /// The number of points, or the greatest `u128` where there are more.
+    /// How many points there are. Past the greatest `u128` it is that number.
     pub fn points(&self) -> u128
         ensures value { result ≡ min (points_of self.now) (2 ^ 128 - 1) }
         ensures some { HasPoint self.now }
@@ -210,7 +210,7 @@ fn with_item(alloc: Global, slots: &[Slot], at: usize, slot: Slot) -> Result<Vec
     Ok(copy)
 }
 
-/// The product of the ways of the slots, or the greatest `u128` where it is more.
+/// The product of the ways of the slots. Past the greatest `u128` it is that number.
 fn points_in(slots: &[Slot]) -> u128
     requires { All IsSlot slots.now }
     ensures { result ≡ min (points_of slots.now) (2 ^ 128 - 1) }
