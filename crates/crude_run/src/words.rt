@@ -40,7 +40,8 @@ pub struct Ask {
 /// What a plain line asks for.
 #[derive(Debug, Drop)]
 pub enum Command {
-    /// A plan for the plant of this file, and a bound that no plan exceeds.
+    /// For the plant of this file a legal plan of at most so many operations, and a bound that no such plan
+    /// exceeds.
     Solve { plant: FileName, ask: Ask },
     /// Whether the dossier of the second file is accepted for the plant of the first.
     Check { plant: FileName, dossier: FileName },
