@@ -13,8 +13,7 @@ use Rattle.crude_run.specs.declared.answer.Answer.{Answer}
 use Rattle.crude_run.specs.declared.words.Ask.{Ask}
 use Rattle.crude_run.specs.declared.words.Command.{Command}
 use Rattle.crude_run.specs.declared.words.Command.TheVariants.{Solve, Check}
-use Rattle.crude_run.specs.declared.files.TheConstants.{PLANT_LIMIT}
-use Rattle.crude_run.specs.declared.status.TheConstants.{NO_MEMORY, WRITE_FAILED}
+use Rattle.crude_run.specs.Numbers.{plant_limit, status_no_memory, status_write_failed}
 use Rattle.crude_run.specs.Words.{line_words, IsPlainLine}
 use Rattle.crude_run.specs.Files.{Files, FileRead, bytes, failed, longer, MayGive}
 use Rattle.crude_run.specs.Solving.{status_of, Solves}
@@ -76,26 +75,26 @@ dossier_status parts ask answer solved = by_word solved.dossier.answer refl
 
 -- the status of a verdict
 verdict_status : (parts : Parts) (text : List ℕ) (answer : Answer) → Checks parts text answer → HasVerdictStatus answer.status
-verdict_status parts text answer (inl accepted) = inl (ap (λ a. a.status) accepted.told)
-verdict_status parts text answer (inr refused) = inr (inl (ap (λ a. a.status) refused.told))
+verdict_status parts text answer (inl accepted) = inl (ap (λ a. a.status) accepted.says)
+verdict_status parts text answer (inr refused) = inr (inl (ap (λ a. a.status) refused.says))
 
 -- ---- files at hand
 
 -- what is read of a file at hand is the file
-of_at_hand : (files : Files) (number : ℕ) (name : List ℕ) (limit : ℕ) (file : List ℕ) (Goes : List ℕ → Answer → Type 0) (answer : Answer) → IsAtHand files name limit file → OfFile files number name limit Goes answer → Goes file answer
-of_at_hand files number name limit file Goes answer is (bytes found, may, owed) =
+of_at_hand : (files : Files) (number : ℕ) (name : List ℕ) (limit : ℕ) (file : List ℕ) (Then : List ℕ → Answer → Type 0) (answer : Answer) → IsAtHand files name limit file → OfFile files number name limit Then answer → Then file answer
+of_at_hand files number name limit file Then answer is (bytes found, may, owed) =
     let same : found ≡ file = subst (λ told. IfSome told (λ text. found ≡ text)) is.told may.1 in
-    subst (λ text. Goes text answer) same owed
-of_at_hand files number name limit file Goes answer is (failed, may, owed) = absurd (is.read may)
-of_at_hand files number name limit file Goes answer is (longer, may, owed) =
+    subst (λ text. Then text answer) same owed
+of_at_hand files number name limit file Then answer is (failed, may, owed) = absurd (is.read may)
+of_at_hand files number name limit file Then answer is (longer, may, owed) =
     let past : limit < length file = subst (λ told. IfSome told (λ text. limit < length text)) is.told may.1 in
     absurd (let short = is.short in omega arith)
 
 -- and the plant is that of the file
-of_plant_at_hand : (files : Files) (name : List ℕ) (parts : Parts) (Goes : Parts → Answer → Type 0) (answer : Answer) → IsPlantAtHand files name parts → OfPlantFile files name Goes answer → Goes parts answer
-of_plant_at_hand files name parts Goes answer is owed =
-    subst (λ read. OfPlant Goes read answer) is.accepted
-    (of_at_hand files 1 name PLANT_LIMIT is.file (λ text. OfPlant Goes (plant_of text)) answer is.at_hand owed)
+of_plant_at_hand : (files : Files) (name : List ℕ) (parts : Parts) (Then : Parts → Answer → Type 0) (answer : Answer) → IsPlantAtHand files name parts → OfPlantFile files name Then answer → Then parts answer
+of_plant_at_hand files name parts Then answer is owed =
+    subst (λ read. OfPlant Then read answer) is.accepted
+    (of_at_hand files 1 name plant_limit is.file (λ text. OfPlant Then (plant_of text)) answer is.at_hand owed)
 
 -- ---- the run
 
@@ -106,13 +105,13 @@ called one words command files answer line (inr (other, plain, serves)) =
     subst (λ c. Serves c files answer) (same_command one words command other line plain) serves
 
 -- a run whose writes did not fail has the status of the answer, or memory was wanting
-ended : (P : ℕ → Type 0) (Due : Answer → Type 0) (outlet : Outlet) (status : ℕ) → NoWriteFailed outlet → P NO_MEMORY → ((answer : Answer) → Due answer → P answer.status) → Answered Due outlet status → P status
-ended P Due outlet status sent memory served answered =
-    elim (cases_eq status NO_MEMORY) [
+ended : (P : ℕ → Type 0) (Owed : Answer → Type 0) (outlet : Outlet) (status : ℕ) → NoWriteFailed outlet → P status_no_memory → ((answer : Answer) → Owed answer → P answer.status) → Answered Owed outlet status → P status
+ended P Owed outlet status sent memory served answered =
+    elim (cases_eq status status_no_memory) [
       | inl full ↦ subst P (sym full) memory
       | inr room ↦
-          elim (cases_eq status WRITE_FAILED) [
-            | inl cut ↦ absurd (sent (answered.cut cut).0)
+          elim (cases_eq status status_write_failed) [
+            | inl cut ↦ absurd (sent (answered.broken_off cut).0)
             | inr written ↦ let whole = answered.whole room written in subst P whole.1 (served whole.0 whole.2)
           ]
     ]

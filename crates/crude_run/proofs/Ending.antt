@@ -28,23 +28,23 @@ solves_below : (parts : Parts) (n budget : ℕ) (answer : Answer) → Solves par
 solves_below parts n budget answer owed = rw owed.status (status_below owed.dossier.answer)
 
 checks_below : (parts : Parts) (text : List ℕ) (answer : Answer) → Checks parts text answer → answer.status < 71
-checks_below parts text answer (inl accepted) = rw accepted.told (omega arith)
-checks_below parts text answer (inr refused) = rw refused.told (omega arith)
+checks_below parts text answer (inl accepted) = rw accepted.says (omega arith)
+checks_below parts text answer (inr refused) = rw refused.says (omega arith)
 
-plant_below : (Goes : Parts → Answer → Type 0) → ((parts : Parts) (answer : Answer) → Goes parts answer → answer.status < 71)
-    → (read : Result Parts PlantTextFault) (answer : Answer) → OfPlant Goes read answer → answer.status < 71
-plant_below Goes goes (Ok parts) answer owed = goes parts answer owed
-plant_below Goes goes (Err fault.Json) answer owed = rw owed (omega arith)
-plant_below Goes goes (Err (fault.Shape place)) answer owed = rw owed (omega arith)
-plant_below Goes goes (Err (fault.Plant found)) answer owed = rw owed (omega arith)
-plant_below Goes goes (Err (fault.NotYet section)) answer owed = rw owed (omega arith)
-plant_below Goes goes (Err fault.Memory) answer owed = absurd owed
+plant_below : (Then : Parts → Answer → Type 0) → ((parts : Parts) (answer : Answer) → Then parts answer → answer.status < 71)
+    → (read : Result Parts PlantTextFault) (answer : Answer) → OfPlant Then read answer → answer.status < 71
+plant_below Then below (Ok parts) answer owed = below parts answer owed
+plant_below Then below (Err fault.Json) answer owed = rw owed (omega arith)
+plant_below Then below (Err (fault.Shape place)) answer owed = rw owed (omega arith)
+plant_below Then below (Err (fault.Plant found)) answer owed = rw owed (omega arith)
+plant_below Then below (Err (fault.NotYet section)) answer owed = rw owed (omega arith)
+plant_below Then below (Err fault.Memory) answer owed = absurd owed
 
-read_below : (number : ℕ) (Goes : List ℕ → Answer → Type 0) → ((found : List ℕ) (answer : Answer) → Goes found answer → answer.status < 71)
-    → (read : FileRead) (answer : Answer) → OfRead number Goes read answer → answer.status < 71
-read_below number Goes goes (bytes found) answer owed = goes found answer owed
-read_below number Goes goes failed answer owed = rw owed (omega arith)
-read_below number Goes goes longer answer owed = rw owed (omega arith)
+read_below : (number : ℕ) (Then : List ℕ → Answer → Type 0) → ((found : List ℕ) (answer : Answer) → Then found answer → answer.status < 71)
+    → (read : FileRead) (answer : Answer) → OfRead number Then read answer → answer.status < 71
+read_below number Then below (bytes found) answer owed = below found answer owed
+read_below number Then below failed answer owed = rw owed (omega arith)
+read_below number Then below longer answer owed = rw owed (omega arith)
 
 -- an answer that a command calls for has a status below those of runs that end short
 pub serves_below : (command : Command) (files : Files) (answer : Answer) → Serves command files answer → answer.status < 71
@@ -70,6 +70,6 @@ owed P (Err stop.Memory) is answer same = absurd same
 pub Answered-due : (P : Answer → Type 0) (outcome : Result Answer Stop) (outlet : Outlet) (status : ℕ) → IfDue outcome P → Answered (IsDue outcome) outlet status → Answered P outlet status
 Answered-due P outcome outlet status is ended = record {
   memory = ended.memory;
-  cut = λ short. let part = ended.cut short in (part.0, (part.1.0, owed P outcome is part.1.0 part.1.1, part.1.2));
+  broken_off = λ short. let part = ended.broken_off short in (part.0, (part.1.0, owed P outcome is part.1.0 part.1.1, part.1.2));
   whole = λ full sent. let all = ended.whole full sent in (all.0, all.1, owed P outcome is all.0 all.2, all.3);
 }

@@ -5,45 +5,45 @@ use Rattle.plant_text.specs.declared.fault.PlantTextFault.{PlantTextFault}
 use Rattle.plant_text.specs.declared.fault.PlantTextFault.TheVariants as fault
 use Rattle.plant_text.specs.PlantText.{plant_of}
 use Rattle.crude_run.specs.declared.answer.Answer.{Answer}
-use Rattle.crude_run.specs.declared.files.TheConstants.{PLANT_LIMIT}
 use Rattle.crude_run.specs.declared.opening.Stop.{Stop}
 use Rattle.crude_run.specs.declared.opening.Stop.TheVariants as stop
+use Rattle.crude_run.specs.Numbers.{plant_limit}
 use Rattle.crude_run.specs.Files.{Files, FileRead, bytes, failed, longer, MayGive, files_between}
 use Rattle.crude_run.specs.Answered.{OfPlant, OfRead, OfFile, OfPlantFile}
-use Rattle.crude_run.specs.Stopping.{OnStop, IfStopped, Nowhere, MayGivePlant, IsLater}
+use Rattle.crude_run.specs.Stopping.{OnStop, IfStopped, NoAnswer, MayGivePlant, IsLater}
 
 -- ---- where no answer comes of what is read, none is missing
 
-plant_anywhere : (Goes : Parts → Answer → Type 0) (read : Result Parts PlantTextFault) (answer : Answer) → OfPlant Nowhere read answer → OfPlant Goes read answer
-plant_anywhere Goes (Ok parts) answer owed = absurd owed
-plant_anywhere Goes (Err fault.Json) answer owed = owed
-plant_anywhere Goes (Err (fault.Shape place)) answer owed = owed
-plant_anywhere Goes (Err (fault.Plant found)) answer owed = owed
-plant_anywhere Goes (Err (fault.NotYet section)) answer owed = owed
-plant_anywhere Goes (Err fault.Memory) answer owed = owed
+plant_anywhere : (Then : Parts → Answer → Type 0) (read : Result Parts PlantTextFault) (answer : Answer) → OfPlant NoAnswer read answer → OfPlant Then read answer
+plant_anywhere Then (Ok parts) answer owed = absurd owed
+plant_anywhere Then (Err fault.Json) answer owed = owed
+plant_anywhere Then (Err (fault.Shape place)) answer owed = owed
+plant_anywhere Then (Err (fault.Plant found)) answer owed = owed
+plant_anywhere Then (Err (fault.NotYet section)) answer owed = owed
+plant_anywhere Then (Err fault.Memory) answer owed = owed
 
-read_anywhere : (number : ℕ) (Goes : List ℕ → Answer → Type 0) (read : FileRead) (answer : Answer) → OfRead number Nowhere read answer → OfRead number Goes read answer
-read_anywhere number Goes (bytes found) answer owed = absurd owed
-read_anywhere number Goes failed answer owed = owed
-read_anywhere number Goes longer answer owed = owed
+read_anywhere : (number : ℕ) (Then : List ℕ → Answer → Type 0) (read : FileRead) (answer : Answer) → OfRead number NoAnswer read answer → OfRead number Then read answer
+read_anywhere number Then (bytes found) answer owed = absurd owed
+read_anywhere number Then failed answer owed = owed
+read_anywhere number Then longer answer owed = owed
 
 -- a plant file that has stopped a command
-pub stopped_plant : (files : Files) (name : List ℕ) (Goes : Parts → Answer → Type 0) (stopped : Stop) → OnStop stopped (OfPlantFile files name Nowhere) → OnStop stopped (OfPlantFile files name Goes)
-stopped_plant files name Goes (stop.Due answer) (bytes found, may, owed) = (bytes found, may, plant_anywhere Goes (plant_of found) answer owed)
-stopped_plant files name Goes (stop.Due answer) (failed, may, owed) = (failed, may, owed)
-stopped_plant files name Goes (stop.Due answer) (longer, may, owed) = (longer, may, owed)
-stopped_plant files name Goes stop.Memory owed = tt
+pub stopped_plant : (files : Files) (name : List ℕ) (Then : Parts → Answer → Type 0) (stopped : Stop) → OnStop stopped (OfPlantFile files name NoAnswer) → OnStop stopped (OfPlantFile files name Then)
+stopped_plant files name Then (stop.Due answer) (bytes found, may, owed) = (bytes found, may, plant_anywhere Then (plant_of found) answer owed)
+stopped_plant files name Then (stop.Due answer) (failed, may, owed) = (failed, may, owed)
+stopped_plant files name Then (stop.Due answer) (longer, may, owed) = (longer, may, owed)
+stopped_plant files name Then stop.Memory owed = tt
 
 -- the answer where the text of the plant file has stopped a command
-pub stopped_text : {X : Type 0} (files : Files) (name found : List ℕ) (made : Result X Stop) → MayGive files name PLANT_LIMIT (bytes found) → IfStopped made (OfPlant Nowhere (plant_of found)) → IfStopped made (OfPlantFile files name Nowhere)
+pub stopped_text : {X : Type 0} (files : Files) (name found : List ℕ) (made : Result X Stop) → MayGive files name plant_limit (bytes found) → IfStopped made (OfPlant NoAnswer (plant_of found)) → IfStopped made (OfPlantFile files name NoAnswer)
 stopped_text files name found (Ok x) may owed = tt
 stopped_text files name found (Err (stop.Due answer)) may owed = (bytes found, may, owed)
 stopped_text files name found (Err stop.Memory) may owed = tt
 
 -- the answer to a plant that the plant file may have given
-pub of_plant : (files : Files) (name : List ℕ) (parts : Parts) (Goes : Parts → Answer → Type 0) (answer : Answer) → MayGivePlant files name parts → Goes parts answer → OfPlantFile files name Goes answer
-of_plant files name parts Goes answer given owed =
-    (bytes given.file, given.may, subst (λ read. OfPlant Goes read answer) (sym given.is) owed)
+pub of_plant : (files : Files) (name : List ℕ) (parts : Parts) (Then : Parts → Answer → Type 0) (answer : Answer) → MayGivePlant files name parts → Then parts answer → OfPlantFile files name Then answer
+of_plant files name parts Then answer given owed =
+    (bytes given.file, given.may, subst (λ read. OfPlant Then read answer) (sym given.is) owed)
 
 -- ---- two reads
 
@@ -64,17 +64,17 @@ module _ {Shelf : Type 0} (told : Shelf → List ℕ → Option (List ℕ)) (fau
 
   -- a plant of the first read, and then the answer to the second file
   pub of_both : IsLater told faults longs before between → IsLater told faults longs between after → (name : List ℕ) (parts : Parts) → MayGivePlant (files_between told faults longs before between) name parts
-      → (other : List ℕ) (limit : ℕ) (Goes : Parts → List ℕ → Answer → Type 0) (answer : Answer) → OfFile (files_between told faults longs between after) 2 other limit (Goes parts) answer
-      → OfPlantFile (files_between told faults longs before after) name (λ plant. OfFile (files_between told faults longs before after) 2 other limit (Goes plant)) answer
-  of_both first second name parts given other limit Goes answer (read, may, owed) =
+      → (other : List ℕ) (limit : ℕ) (Then : Parts → List ℕ → Answer → Type 0) (answer : Answer) → OfFile (files_between told faults longs between after) 2 other limit (Then parts) answer
+      → OfPlantFile (files_between told faults longs before after) name (λ plant. OfFile (files_between told faults longs before after) 2 other limit (Then plant)) answer
+  of_both first second name parts given other limit Then answer (read, may, owed) =
       of_plant (files_between told faults longs before after) name parts _ answer
-      (record { file = given.file; may = may_until second name PLANT_LIMIT (bytes given.file) given.may; is = given.is })
+      (record { file = given.file; may = may_until second name plant_limit (bytes given.file) given.may; is = given.is })
       (read, may_since first other limit read may, owed)
 
   -- a second file that has stopped a command
   pub stopped_both : IsLater told faults longs before between → IsLater told faults longs between after → (name : List ℕ) (parts : Parts) → MayGivePlant (files_between told faults longs before between) name parts
-      → (other : List ℕ) (limit : ℕ) (Goes : Parts → List ℕ → Answer → Type 0) (stopped : Stop) → OnStop stopped (OfFile (files_between told faults longs between after) 2 other limit Nowhere)
-      → OnStop stopped (OfPlantFile (files_between told faults longs before after) name (λ plant. OfFile (files_between told faults longs before after) 2 other limit (Goes plant)))
-  stopped_both first second name parts given other limit Goes (stop.Due answer) (read, may, owed) =
-      of_both first second name parts given other limit Goes answer (read, may, read_anywhere 2 (Goes parts) read answer owed)
-  stopped_both first second name parts given other limit Goes stop.Memory owed = tt
+      → (other : List ℕ) (limit : ℕ) (Then : Parts → List ℕ → Answer → Type 0) (stopped : Stop) → OnStop stopped (OfFile (files_between told faults longs between after) 2 other limit NoAnswer)
+      → OnStop stopped (OfPlantFile (files_between told faults longs before after) name (λ plant. OfFile (files_between told faults longs before after) 2 other limit (Then plant)))
+  stopped_both first second name parts given other limit Then (stop.Due answer) (read, may, owed) =
+      of_both first second name parts given other limit Then answer (read, may, read_anywhere 2 (Then parts) read answer owed)
+  stopped_both first second name parts given other limit Then stop.Memory owed = tt

@@ -1,4 +1,4 @@
--- When a run answers its words with the work that they ask for, whatever it does.
+-- When a run has done the work that its words ask for, and with which status it ends then.
 use Rattle.std.specs.Prelude.{◌≡◌, ◌⊎◌, ℕ, ◌+◌, ◌≤◌, List, length, Some, Ok}
 use Rattle.outer_edge.specs.Rose.{Rose}
 use Rattle.plant_model.specs.declared.parts.Parts.{Parts}
@@ -7,8 +7,7 @@ use Rattle.slot_box.specs.Boxes.{points_of}
 use Rattle.leaf_value.specs.PlainValue.{root_box_of}
 use Rattle.crude_run.specs.declared.words.Ask.{Ask}
 use Rattle.crude_run.specs.declared.words.Command.TheVariants.{Solve, Check}
-use Rattle.crude_run.specs.declared.files.TheConstants.{PLANT_LIMIT, DOSSIER_LIMIT}
-use Rattle.crude_run.specs.declared.status.TheConstants.{PLAN_FOUND, INFEASIBLE, NONE_FOUND, ACCEPTED, NOT_ACCEPTED, NO_MEMORY}
+use Rattle.crude_run.specs.Numbers.{plant_limit, dossier_limit, status_plan_found, status_infeasible, status_none_found, status_accepted, status_not_accepted, status_no_memory}
 use Rattle.crude_run.specs.Words.{IsPlainLine}
 use Rattle.crude_run.specs.Files.{Files}
 use Rattle.crude_run.specs.Answered.{Outlet}
@@ -22,26 +21,26 @@ pub record IsAtHand (files : Files) (name : List ℕ) (limit : ℕ) (file : List
 -- the plant file is at hand, and is a plant
 pub record IsPlantAtHand (files : Files) (name : List ℕ) (parts : Parts) : Type 0 where
   pub file : List ℕ
-  pub at_hand : IsAtHand files name PLANT_LIMIT file
+  pub at_hand : IsAtHand files name plant_limit file
   pub accepted : plant_of file ≡ Ok parts
 
 -- no write failed
 abbrev pub NoWriteFailed : Outlet → Type 0
 NoWriteFailed outlet = Rose outlet.faults_before outlet.faults_after → ⊥
 
--- the status is that of a dossier, or memory was wanting; that no plan was found is no answer where the budget is at least the
--- points of the root box but one
+-- the status is that of a dossier, or memory was wanting; with a budget that can single out each point of the root box it is not
+-- that no plan was found
 abbrev pub HasDossierStatus : Parts → Ask → ℕ → Type 0
 HasDossierStatus parts ask status =
-    (status ≡ PLAN_FOUND) ⊎ (status ≡ INFEASIBLE) ⊎ ((status ≡ NONE_FOUND) × (points_of (root_box_of parts ask.slots) ≤ ask.nodes + 1 → ⊥)) ⊎ (status ≡ NO_MEMORY)
+    (status ≡ status_plan_found) ⊎ (status ≡ status_infeasible) ⊎ ((status ≡ status_none_found) × (points_of (root_box_of parts ask.slots) ≤ ask.nodes + 1 → ⊥)) ⊎ (status ≡ status_no_memory)
 
 -- the status is that of a verdict, or memory was wanting
 abbrev pub HasVerdictStatus : ℕ → Type 0
-HasVerdictStatus status = (status ≡ ACCEPTED) ⊎ (status ≡ NOT_ACCEPTED) ⊎ (status ≡ NO_MEMORY)
+HasVerdictStatus status = (status ≡ status_accepted) ⊎ (status ≡ status_not_accepted) ⊎ (status ≡ status_no_memory)
 
 -- a plain line whose files are at hand, the first of them a plant, has been served, unless a write failed or memory was wanting
 pub record IsComplete (words : List (List ℕ)) (files : Files) (outlet : Outlet) (status : ℕ) : Type 0 where
   pub solves : (plant : List ℕ) (ask : Ask) (parts : Parts)
       → IsPlainLine words (Solve plant ask) → IsPlantAtHand files plant parts → NoWriteFailed outlet → HasDossierStatus parts ask status
   pub checks : (plant dossier file : List ℕ) (parts : Parts)
-      → IsPlainLine words (Check plant dossier) → IsPlantAtHand files plant parts → IsAtHand files dossier DOSSIER_LIMIT file → NoWriteFailed outlet → HasVerdictStatus status
+      → IsPlainLine words (Check plant dossier) → IsPlantAtHand files plant parts → IsAtHand files dossier dossier_limit file → NoWriteFailed outlet → HasVerdictStatus status

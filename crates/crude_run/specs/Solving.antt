@@ -7,7 +7,6 @@ use Rattle.slot_box.specs.declared.slot.Slot.{Slot}
 use Rattle.slot_box.specs.declared.term.Term.{Term}
 use Rattle.slot_box.specs.Boxes.{points_of}
 use Rattle.slot_box.specs.Trees.{HasBox}
-use Rattle.replay_core.specs.Claim.{HasClaim}
 use Rattle.leaf_value.specs.LeafValue.{leaf_value_of}
 use Rattle.leaf_value.specs.PlainValue.{root_box_of}
 use Rattle.dossier_text.specs.declared.dossier.Dossier.{Dossier}
@@ -17,15 +16,15 @@ use Rattle.dossier_text.specs.Ranges.{IsReadable}
 use Rattle.dossier_text.specs.Text.{dossier_bytes}
 use Rattle.dossier_check.specs.Nodes.{IsLeaf, inner_count, NoLeafHasValue}
 use Rattle.dossier_check.specs.Accepted.{IsAccepted}
-use Rattle.dossier_check.specs.Claims.{claim_of}
+use Rattle.dossier_check.specs.Claims.{claim_of, HasClaim}
 use Rattle.crude_run.specs.declared.answer.Answer.{Answer}
-use Rattle.crude_run.specs.declared.status.TheConstants.{PLAN_FOUND, INFEASIBLE, NONE_FOUND}
+use Rattle.crude_run.specs.Numbers.{status_plan_found, status_infeasible, status_none_found}
 
 -- the status that goes with the answer of a dossier
 abbrev pub status_of : Word3 → ℕ
-status_of Plan = PLAN_FOUND
-status_of Infeasible = INFEASIBLE
-status_of Open3 = NONE_FOUND
+status_of Plan = status_plan_found
+status_of Infeasible = status_infeasible
+status_of Open3 = status_none_found
 
 -- a leaf of a dossier's tree over its root box, with its box
 pub record IsLeafOver (root : List Slot) (dossier : Dossier) (box : List Slot) (leaf : LeafKind) : Type 0 where
@@ -63,8 +62,8 @@ pub record IsSolution (parts : Parts) (n budget : ℕ) (dossier : Dossier) : Typ
   -- its text is read again as the dossier, and its plan's lines are a plan text
   pub readable : IsReadable dossier
   pub accepted : IsAccepted parts dossier
-  -- its plan is legal and earns the margin, no plan exceeds the bound, and where it says so there is no plan
-  pub claim : HasClaim parts n (claim_of parts dossier)
+  -- what it claims is so: of the plans of at most n operations
+  pub claim : HasClaim parts (claim_of parts dossier)
   -- that there is no plan is its answer exactly where no leaf has a value
   pub infeasible : (dossier.answer ≡ Infeasible) ↔ NoLeafHasValue parts (root_box_of parts n) dossier.tree
   pub spends : KeepsBudget parts n budget dossier

@@ -6,7 +6,7 @@ use Rattle.std.specs.declared.alloc.AllocError.{AllocError}
 use Rattle.crude_run.specs.declared.answer.Answer.{Answer}
 use Rattle.crude_run.specs.declared.opening.Stop.{Stop}
 use Rattle.crude_run.specs.declared.opening.Stop.TheVariants.{Due, Memory}
-use Rattle.crude_run.specs.declared.files.TheConstants.{PLANT_LIMIT}
+use Rattle.crude_run.specs.Numbers.{plant_limit}
 use Rattle.crude_run.specs.Files.{Files, bytes, MayGive}
 
 -- what is so of the answer with which a command stops
@@ -31,13 +31,13 @@ IsDue (Err (Due due)) answer = answer ≡ due
 IsDue (Err Memory) answer = ⊥
 
 -- no answer comes of what is read
-abbrev pub Nowhere : {X : Type 0} → X → Answer → Type 0
-Nowhere x answer = ⊥
+abbrev pub NoAnswer : {X : Type 0} → X → Answer → Type 0
+NoAnswer x answer = ⊥
 
 -- the plant file may have given this plant
 pub record MayGivePlant (files : Files) (name : List ℕ) (parts : Parts) : Type 0 where
   pub file : List ℕ
-  pub may : MayGive files name PLANT_LIMIT (bytes file)
+  pub may : MayGive files name plant_limit (bytes file)
   pub is : plant_of file ≡ Ok parts
 
 -- a stop with the answer, where there was memory for it

@@ -15,6 +15,7 @@ use std::alloc::{AllocError, Global};
 #[derive(Debug, Drop)]
 pub struct Answer {
     pub status: Status,
+    /// Each of its lines ends with a line feed.
     pub text: Text,
 }
 

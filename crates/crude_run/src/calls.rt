@@ -16,7 +16,7 @@ use std::alloc::Global;
 
 /// Does what the words ask for: reads files from the shelf, and writes the answer into the sink.
 ///
-/// The words are those after the program's name. The whole text is made before the first write.
+/// The words are those after the program's name. No byte is written before the whole text is there.
 pub fn run<H: Shelf, K: Sink, G: Gate>(
     alloc: Global,
     words: &[String],

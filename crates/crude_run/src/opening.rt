@@ -4,7 +4,7 @@ ghost use Rattle.std.specs.Prelude.{◌≡◌, Ok, IfOk};
 ghost use Rattle.plant_text.specs.PlantText.{plant_of};
 ghost use Rattle.crude_run.specs.Files.{files_between, bytes, MayGive};
 ghost use Rattle.crude_run.specs.Answered.{OfPlant, OfFile, OfPlantFile};
-ghost use Rattle.crude_run.specs.Stopping.{IfStopped, Nowhere, MayGivePlant, IsLater, stop_of};
+ghost use Rattle.crude_run.specs.Stopping.{IfStopped, NoAnswer, MayGivePlant, IsLater, stop_of};
 
 use crate::answer::{Answer, not_yet, plant_refused, read_failed, too_long};
 use crate::files::PLANT_LIMIT;
@@ -52,7 +52,7 @@ pub(crate) fn open_file<H: Shelf>(
     shelf: &mut H,
 ) -> Result<Vec<u8>, Stop>
     ensures read { IfOk result (λ file. MayGive (files_between H.told H.faults H.longs shelf.old shelf.new) name.now limit (bytes file.items)) }
-    ensures stopped { IfStopped result (OfFile (files_between H.told H.faults H.longs shelf.old shelf.new) number name.now limit Nowhere) }
+    ensures stopped { IfStopped result (OfFile (files_between H.told H.faults H.longs shelf.old shelf.new) number name.now limit NoAnswer) }
     ensures later { IsLater H.told H.faults H.longs shelf.old shelf.new }
 {
     match shelf.read(alloc, name, limit) {
@@ -66,7 +66,7 @@ pub(crate) fn open_file<H: Shelf>(
 /// The plant of a plant text.
 fn plant_of_text(alloc: Global, text: &[u8]) -> Result<Plant, Stop>
     ensures plant { IfOk result (λ plant. plant_of text.now ≡ Ok plant) }
-    ensures stopped { IfStopped result (OfPlant Nowhere (plant_of text.now)) }
+    ensures stopped { IfStopped result (OfPlant NoAnswer (plant_of text.now)) }
 {
     match read_plant(alloc, text) {
         Ok(plant) => Ok(plant),
@@ -81,7 +81,7 @@ fn plant_of_text(alloc: Global, text: &[u8]) -> Result<Plant, Stop>
 /// The plant of the plant file, which every command names first.
 pub(crate) fn open_plant<H: Shelf>(alloc: Global, name: &str, shelf: &mut H) -> Result<Plant, Stop>
     ensures plant { IfOk result (MayGivePlant (files_between H.told H.faults H.longs shelf.old shelf.new) name.now) }
-    ensures stopped { IfStopped result (OfPlantFile (files_between H.told H.faults H.longs shelf.old shelf.new) name.now Nowhere) }
+    ensures stopped { IfStopped result (OfPlantFile (files_between H.told H.faults H.longs shelf.old shelf.new) name.now NoAnswer) }
     ensures later { IsLater H.told H.faults H.longs shelf.old shelf.new }
 {
     let text = open_file(alloc, 1, name, PLANT_LIMIT, shelf)?;

@@ -2,15 +2,15 @@ ghost use Rattle.std.specs.Prelude.{◌≡◌};
 
 use std::marker::Model;
 
-/// A plan was found.
+/// `solve` found a plan.
 pub const PLAN_FOUND: u8 = 0;
-/// The dossier is accepted.
+/// `check` says yes: the dossier is accepted.
 pub const ACCEPTED: u8 = 0;
-/// The dossier is not accepted.
+/// `check` says no: the dossier is not accepted.
 pub const NOT_ACCEPTED: u8 = 1;
-/// No plan exists.
+/// `solve` says that there is no legal plan of at most so many operations.
 pub const INFEASIBLE: u8 = 3;
-/// No plan was found.
+/// `solve` found no plan.
 pub const NONE_FOUND: u8 = 4;
 /// The words are no plain line.
 pub const WORDS_REFUSED: u8 = 64;

@@ -22,6 +22,7 @@ impl Model for FileName {
 }
 
 impl FileName {
+    /// The name's text.
     pub fn as_str(&self) -> &str
         ensures { result.now ≡ self.now }
     {
@@ -32,7 +33,9 @@ impl FileName {
 /// How much a search may do: with how many slots, how many inner nodes and how many workers.
 #[derive(Clone, Copy, Debug, PartialEq, Eq)]
 pub struct Ask {
+    /// The most operations of a plan.
     pub slots: u32,
+    /// The most inner nodes of the search tree.
     pub nodes: u32,
     pub workers: u32,
 }

@@ -3,7 +3,7 @@ ghost use Rattle.std.specs.Result.{result_err};
 ghost use Rattle.item_lists.specs.Faults.{first_of};
 ghost use Rattle.dossier_text.specs.Ranges.{IsReadable};
 ghost use Rattle.dossier_text.specs.Reading.{plan_length};
-ghost use Rattle.dossier_check.specs.Claims.{told_of};
+ghost use Rattle.dossier_check.specs.Claims.{claim_of};
 ghost use Rattle.dossier_check.specs.Reasons.{slot_reasons, cut_reasons, first_cut_line, first_node_line, is_same, fits_answer, claim_reasons, dossier_reasons};
 ghost use Rattle.dossier_check.specs.Verdicts.{Tests, IsVerdict, IsVerdictOn, IsYesOfAccepted, ClaimsTruth};
 
@@ -102,7 +102,7 @@ fn check_answer(dossier: &Dossier, greatest: Option<i64>) -> Result<(), Reason>
 fn check_dossier(alloc: Global, plant: &Plant, dossier: &Dossier) -> Result<Claim, Refusal>
     requires { IsReadable dossier.now }
     ensures reasons { Tests (dossier_reasons plant.now dossier.now) result }
-    ensures told { IfOk result (λ claim. claim ≡ told_of plant.now dossier.now) }
+    ensures claimed { IfOk result (λ claim. claim ≡ claim_of plant.now dossier.now) }
 {
     check_slots(dossier)?;
     let line = 10 + plan_length(&dossier.plan);

@@ -12,24 +12,25 @@ pub(crate) struct Reason {
     pub(crate) line: u32,
 }
 
-/// What an accepted dossier gives.
+/// What an accepted dossier claims.
 #[derive(Debug, Drop)]
 pub struct Claim {
     /// The most operations of the plans that it speaks of.
     pub slots: u32,
-    /// What it says of plans: one is given, there is none, or it is open.
+    /// What it says of them: one is given, there is none, or it is open.
     pub answer: Word3,
+    /// A legal plan.
     pub plan: Option<Word>,
-    /// The plan's, in money.
+    /// What that plan earns.
     pub margin: Option<i64>,
-    /// On the margin of every plan; where there is none, there is no plan.
+    /// What no legal plan of so many operations exceeds.
     pub bound: Option<i64>,
 }
 
 /// Whether bytes are an accepted dossier.
 #[derive(Debug, Drop)]
 pub enum Verdict {
-    /// They are, and it gives this.
+    /// They are, and it claims this.
     Yes(Claim),
     /// They are not, for this reason first.
     No { reason: u8, line: u32 },

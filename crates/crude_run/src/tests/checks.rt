@@ -1,7 +1,9 @@
 //! What `check` answers, of `one_charge` and the dossiers on it.
 
 use super::runs::{Ended, Outside, SOUND, outcome, outcome_with};
-use super::samples::{one_charge, one_dual, split_once, two_inlets, with, yes_of_twelve};
+use super::samples::{
+    fixed_rate, one_charge, one_charge_open, one_dual, split_once, two_inlets, with, yes_of_twelve,
+};
 use std::alloc::{AllocError, Global};
 use std::test::Fail;
 
@@ -31,6 +33,27 @@ fn says_yes_of_what_solve_writes(rt: HostRuntime) -> Result<(), Fail> {
     let solved = outcome(rt.alloc(), line, one_charge().as_bytes(), SOUND)?;
     let ended = checked(rt.alloc(), solved.written())?;
     assert!(rt; ended.is(0, yes_of_twelve()), "{ended:?}");
+    Ok(())
+}
+
+// The plan of `fixed_rate` would have to run at every minute, and there is not enough crude.
+#[test]
+fn says_yes_where_there_is_no_plan(rt: HostRuntime) -> Result<(), Fail> {
+    let alloc = rt.alloc();
+    let plant = fixed_rate().as_bytes();
+    let line = "solve plant --slots 1 --nodes 45 --workers 1";
+    let solved = outcome(alloc, line, plant, SOUND)?;
+    let ended = outcome_with(alloc, CHECK, plant, solved.written(), SOUND)?;
+    let answer = "yes\nanswer infeasible\nmargin none\nbound none\n";
+    assert!(rt; ended.is(0, answer), "{ended:?}");
+    Ok(())
+}
+
+#[test]
+fn says_yes_of_a_bound_alone(rt: HostRuntime) -> Result<(), Fail> {
+    let ended = checked(rt.alloc(), one_charge_open().as_bytes())?;
+    let answer = "yes\nanswer open\nmargin none\nbound 12\n";
+    assert!(rt; ended.is(0, answer), "{ended:?}");
     Ok(())
 }
 

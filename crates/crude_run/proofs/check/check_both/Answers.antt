@@ -1,5 +1,5 @@
 use Rattle.std.proofs.Common.{◌≡◌, Err, rules}
-use Rattle.crude_run.specs.declared.files.TheConstants.{DOSSIER_LIMIT}
+use Rattle.crude_run.specs.Numbers.{dossier_limit}
 use Rattle.crude_run.specs.Files.{bytes}
 use Rattle.crude_run.specs.Checking.{Checks}
 use Rattle.crude_run.proofs.OpeningLaws.{of_both, stopped_both}
@@ -10,10 +10,10 @@ returns-in_err-bytes g c =
     let same : c.from_residual-in_err-bytes.result ≡ Err c.in_err-bytes.field-0.0 = search rules in
     rw same
     (stopped_both g.H.Shelf.told g.H.Shelf.faults g.H.Shelf.longs c.args.shelf.now c.open_plant.new.shelf c.open_file.new.shelf
-    c.in_ok-plant.ensures.later c.in_err-bytes.ensures.later c.args.plant.now _ c.in_ok-plant.ensures.plant c.args.dossier.now DOSSIER_LIMIT Checks _ c.in_err-bytes.ensures.stopped)
+    c.in_ok-plant.ensures.later c.in_err-bytes.ensures.later c.args.plant.now _ c.in_ok-plant.ensures.plant c.args.dossier.now dossier_limit Checks _ c.in_err-bytes.ensures.stopped)
 
 pub returns : goal.returns
 returns g c =
     of_both g.H.Shelf.told g.H.Shelf.faults g.H.Shelf.longs c.args.shelf.now c.open_plant.new.shelf c.open_file.new.shelf
-    c.in_ok-plant.ensures.later c.in_ok-bytes.ensures.later c.args.plant.now _ c.in_ok-plant.ensures.plant c.args.dossier.now DOSSIER_LIMIT Checks c.in_ok-answer.answer
+    c.in_ok-plant.ensures.later c.in_ok-bytes.ensures.later c.args.plant.now _ c.in_ok-plant.ensures.plant c.args.dossier.now dossier_limit Checks c.in_ok-answer.answer
     (bytes c.in_ok-bytes.bytes.items, c.in_ok-bytes.ensures.read, rw c.deref.ensures.value at c.in_ok-answer.ensures)

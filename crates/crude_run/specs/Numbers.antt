@@ -1,0 +1,62 @@
+-- The numbers that a user sees: with which status a run ends, and how long its files may be.
+use Rattle.std.specs.Prelude.{ℕ}
+
+-- ---- statuses
+
+-- `solve` found a plan
+abbrev pub status_plan_found : ℕ
+status_plan_found = 0
+
+-- `check` says yes
+abbrev pub status_accepted : ℕ
+status_accepted = 0
+
+-- `check` says no
+abbrev pub status_not_accepted : ℕ
+status_not_accepted = 1
+
+-- `solve` says that there is no plan
+abbrev pub status_infeasible : ℕ
+status_infeasible = 3
+
+-- `solve` found no plan
+abbrev pub status_none_found : ℕ
+status_none_found = 4
+
+-- the words are no plain line
+abbrev pub status_words_refused : ℕ
+status_words_refused = 64
+
+-- the plant file is no plant
+abbrev pub status_plant_refused : ℕ
+status_plant_refused = 65
+
+-- a file could not be read
+abbrev pub status_read_failed : ℕ
+status_read_failed = 66
+
+-- a file is longer than its limit
+abbrev pub status_too_long : ℕ
+status_too_long = 67
+
+-- the plant has a form that is not built yet
+abbrev pub status_not_yet : ℕ
+status_not_yet = 69
+
+-- memory ran out
+abbrev pub status_no_memory : ℕ
+status_no_memory = 71
+
+-- the text could not be written
+abbrev pub status_write_failed : ℕ
+status_write_failed = 74
+
+-- ---- limits
+
+-- the most bytes of a plant file
+abbrev pub plant_limit : ℕ
+plant_limit = 4194304
+
+-- the most bytes of a dossier
+abbrev pub dossier_limit : ℕ
+dossier_limit = 1073741824
