@@ -1,5 +1,5 @@
 -- A run that nothing hindered has served its words.
-use Rattle.std.proofs.Common.{◌≡◌, ℕ, inl, inr, ◌+◌, ◌≤◌, ◌<◌, List, length, Some, Ok, refl, sym, ap, ap₂, ◌∙◌, subst, arith}
+use Rattle.std.proofs.Common.{◌≡◌, ℕ, inl, inr, ◌+◌, ◌≤◌, ◌<◌, List, length, refl, sym, ap, ap₂, ◌∙◌, subst, arith}
 use Rattle.std.specs.Prelude.{IfSome, decimal}
 use Rattle.std.proofs.lemmas.Bool.{cases_eq}
 use Rattle.line_text.specs.Decimal.{HasOneNumber}
@@ -15,7 +15,7 @@ use Rattle.crude_run.specs.declared.words.Command.{Command}
 use Rattle.crude_run.specs.declared.words.Command.TheVariants.{Solve, Check}
 use Rattle.crude_run.specs.Numbers.{plant_limit, status_no_memory, status_write_failed}
 use Rattle.crude_run.specs.Words.{line_words, IsPlainLine}
-use Rattle.crude_run.specs.Files.{Files, FileRead, bytes, failed, longer, MayGive}
+use Rattle.crude_run.specs.Files.{Files, bytes, failed, longer}
 use Rattle.crude_run.specs.Solving.{status_of, Solves}
 use Rattle.crude_run.specs.Checking.{Checks}
 use Rattle.crude_run.specs.Answered.{OfPlant, OfFile, OfPlantFile, Serves, CallsFor, Outlet, Answered}

@@ -1,5 +1,5 @@
 -- How a run ends that owed an answer.
-use Rattle.std.proofs.Common.{◌≡◌, ◌<◌, ℕ, List, Result, Ok, Err, inl, inr, sym, subst, arith}
+use Rattle.std.proofs.Common.{◌<◌, ℕ, List, Result, Ok, Err, inl, inr, sym, subst, arith}
 use Rattle.plant_model.specs.declared.parts.Parts.{Parts}
 use Rattle.plant_text.specs.declared.fault.PlantTextFault.{PlantTextFault}
 use Rattle.plant_text.specs.declared.fault.PlantTextFault.TheVariants as fault

@@ -1,5 +1,5 @@
 -- What the reads of a command may have given, carried over its other reads.
-use Rattle.std.proofs.Common.{◌≡◌, ◌≤◌, ℕ, List, Option, Result, Ok, Err, sym, subst, arith}
+use Rattle.std.proofs.Common.{ℕ, List, Option, Result, Ok, Err, sym, subst, arith}
 use Rattle.plant_model.specs.declared.parts.Parts.{Parts}
 use Rattle.plant_text.specs.declared.fault.PlantTextFault.{PlantTextFault}
 use Rattle.plant_text.specs.declared.fault.PlantTextFault.TheVariants as fault

@@ -1,6 +1,6 @@
 -- Rules that are asked place by place, and operations that are asked one after the other, in loops.
-use Rattle.std.proofs.Common.{◌≡◌, ℕ, ◌+◌, ◌<◌, ◌≤◌, Some, None, List, [], ◌∷◌, ◌++◌, length, get_or, drop, take, refl, sym, ap, subst, ◌∙◌, append_assoc, arith}
-use Rattle.std.proofs.lemmas.List.{get_or_default, drop_more, drop_all, take_more, append-nil}
+use Rattle.std.proofs.Common.{◌≡◌, ℕ, ◌+◌, ◌<◌, ◌≤◌, Some, None, List, [], ◌∷◌, ◌++◌, length, get_or, drop, take, refl, sym, ap, ◌∙◌, append_assoc, arith}
+use Rattle.std.proofs.lemmas.List.{get_or_default, drop_more, drop_all, take_more}
 use Rattle.item_lists.specs.Faults.{first_of, unless, each_from}
 use Rattle.item_lists.proofs.FaultLaws.{first_of-front, first_of-back, each_from-next, each_from-stop, each_from-end}
 use Rattle.plant_model.specs.declared.parts.Parts.{Parts}
@@ -10,7 +10,7 @@ use Rattle.replay_core.specs.declared.timed.Timed.{Timed}
 use Rattle.replay_core.specs.declared.broken.Broken.{Broken}
 use Rattle.replay_core.specs.State.{state_after}
 use Rattle.replay_core.specs.Rules.{is_emptied, meets_demand, meets_charges}
-use Rattle.replay_core.specs.Legal.{broken, op_faults, step_faults_from, step_faults, vessel_faults, demand_faults, unit_faults}
+use Rattle.replay_core.specs.Legal.{broken, op_faults, step_faults_from, vessel_faults, demand_faults, unit_faults}
 use Rattle.replay_core.proofs.PlaceLists.{length-per_place}
 
 -- ---- places

@@ -1,9 +1,8 @@
 -- Laws of margins: one more operation, and bounds.
-use Rattle.std.proofs.Common.{◌≡◌, ℕ, zero, suc, ◌+◌, ◌*◌, ◌<◌, ◌≤◌, ℤ, pos, negsuc, neg_ℤ, ◌+ℤ◌, ◌*ℤ◌, ◌≤ℤ◌, Bool, true, false, if◌then◌else◌, List, [], ◌∷◌, ◌++◌, map, length, get_or, sum, refl, sym, ap, subst, ◌∙◌, append_assoc, arith}
+use Rattle.std.proofs.Common.{◌≡◌, ℕ, zero, suc, ◌+◌, ◌*◌, ◌≤◌, ℤ, pos, negsuc, neg_ℤ, ◌+ℤ◌, ◌*ℤ◌, ◌≤ℤ◌, Bool, true, false, if◌then◌else◌, List, [], ◌∷◌, ◌++◌, map, length, get_or, sum, ap, ◌∙◌, append_assoc, arith}
 use Rattle.std.proofs.lemmas.Int.{ints}
 use Rattle.std.proofs.lemmas.List.{append-nil, length-map, length_push}
-use Rattle.std.proofs.lemmas.List.Sums.{sum_by_push, get_or-le-sum_by}
-use Rattle.std.proofs.lemmas.Bool.{cases_Bool}
+use Rattle.std.proofs.lemmas.List.Sums.{sum_by_push}
 use Rattle.std.proofs.Math.Nat.{mul-le-mul_right, mul-le-mul_left}
 use Rattle.crude_amounts.specs.Amounts.{weighted_of}
 use Rattle.crude_amounts.proofs.DrawLaws.{sum-cons}
@@ -16,8 +15,8 @@ use Rattle.plant_model.specs.Parts.{crude_count_of, op_of, margin_of as crude_ma
 use Rattle.plant_model.specs.Relations.{is_charge}
 use Rattle.plant_model.specs.Sound.{SoundPlant}
 use Rattle.replay_core.specs.declared.timed.Timed.{Timed}
-use Rattle.replay_core.specs.State.{drawn_of, state_after, draw_at}
-use Rattle.replay_core.specs.Legal.{op_faults, IsAccepted, IsLegal}
+use Rattle.replay_core.specs.State.{state_after, draw_at}
+use Rattle.replay_core.specs.Legal.{IsAccepted}
 use Rattle.replay_core.specs.Margin.{AreSmall, crude_margins_of, earned_at, earned_from, margin_of, greatest_gain_of, greatest_gains_of, MarginIsBounded}
 use Rattle.replay_core.proofs.StepLaws.{along_accepted, IsAccepted-legal}
 use Rattle.replay_core.proofs.RuleLaws.{RunsSoundly, runs_soundly}

@@ -1,8 +1,8 @@
 -- Rules on the operations before one, asked of what is kept of them.
-use Rattle.std.proofs.Common.{IsTrue, ◌↔◌, ◌≡◌, ◌≢◌, ℕ, suc, ◌+◌, ◌-◌, ◌<◌, ◌≤◌, max, Bool, true, false, not, ◌&&◌, ◌||◌, eqb, leb, ltb, if◌then◌else◌, List, [], ◌∷◌, ◌++◌, fold, length, get_or, refl, sym, ap, inl, inr, ◌∙◌, arith}
+use Rattle.std.proofs.Common.{IsTrue, ◌↔◌, ◌≡◌, ℕ, suc, ◌+◌, ◌-◌, ◌<◌, ◌≤◌, max, Bool, true, false, not, ◌&&◌, ◌||◌, eqb, leb, ltb, if◌then◌else◌, List, [], ◌∷◌, fold, length, get_or, refl, sym, ap, inl, inr, ◌∙◌, arith}
 use Rattle.std.specs.List.{list_all}
 use Rattle.std.proofs.lemmas.List.Folds.{list_all-append}
-use Rattle.std.proofs.lemmas.Bool.{cases_Bool, and_parts, and_from, or_cases, eqb-true, eq-eqb, leb-true, le-leb, ltb-true}
+use Rattle.std.proofs.lemmas.Bool.{cases_Bool, and_parts, and_from, eqb-true, eq-eqb, leb-true, le-leb, ltb-true}
 use Rattle.std.proofs.lemmas.Bool.Decides.{nat_tests}
 use Rattle.plant_model.specs.declared.parts.Parts.{Parts}
 use Rattle.plant_model.specs.Parts.{op_count_of, op_of}
@@ -10,9 +10,9 @@ use Rattle.plant_model.specs.Relations.{is_unload, refused_at_once_of}
 use Rattle.replay_core.specs.declared.timed.Timed.{Timed}
 use Rattle.replay_core.specs.Ends.{last_end_of, last_vessel_of, AreEnds}
 use Rattle.replay_core.specs.Rules.{last_start, is_known, waits_for_others, unloads_later_vessel, keeps_vessel_order}
-use Rattle.replay_core.specs.Legal.{op_faults, IsAccepted}
+use Rattle.replay_core.specs.Legal.{IsAccepted}
 use Rattle.replay_core.proofs.StepLaws.{along_accepted}
-use Rattle.replay_core.proofs.RuleLaws.{rules_kept, own_rules_kept, known-below}
+use Rattle.replay_core.proofs.RuleLaws.{rules_kept, own_rules_kept}
 
 -- the plant has each operation that has run
 pub all_known : (parts : Parts) (steps : List Timed) → IsAccepted parts steps → list_all (is_known parts) steps ≡ true

@@ -1,5 +1,5 @@
 -- Lists with one entry a place, entry by entry.
-use Rattle.std.proofs.Common.{◌≡◌, ◌⊎◌, ℕ, zero, suc, ◌+◌, ◌<◌, true, false, List, [], ◌∷◌, ◌++◌, map, length, get_or, replicate, refl, sym, ap, inl, inr, ◌∙◌, arith}
+use Rattle.std.proofs.Common.{◌≡◌, ℕ, zero, suc, ◌<◌, List, [], ◌∷◌, ◌++◌, map, length, get_or, arith}
 use Rattle.std.proofs.lemmas.List.{length-append, length-map}
 use Rattle.plant_model.specs.declared.parts.VesselPart.{VesselPart}
 use Rattle.plant_model.specs.declared.parts.TankPart.{TankPart}

@@ -1,10 +1,9 @@
 -- Laws of legal plans.
-use Rattle.std.proofs.Common.{◌≡◌, ◌+◌, List, ◌∷◌, ◌++◌, length}
+use Rattle.std.proofs.Common.{◌+◌, ◌∷◌, ◌++◌, length}
 use Rattle.std.specs.List.{All}
 use Rattle.std.proofs.lemmas.List.Elements.{All-nil, All-push}
 use Rattle.plant_model.specs.declared.parts.Parts.{Parts}
 use Rattle.plant_model.specs.Sound.{SoundPlant}
-use Rattle.replay_core.specs.declared.timed.Timed.{Timed}
 use Rattle.replay_core.specs.State.{state_after}
 use Rattle.replay_core.specs.Legal.{PrefixesAreAccepted, DrawsAreVolumes, IsInRange, StepsAreInRange}
 use Rattle.replay_core.proofs.StepLaws.{IsAccepted-front, IsAccepted-legal, op_faults-accepted, along_accepted}

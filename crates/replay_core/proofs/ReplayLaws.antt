@@ -1,27 +1,27 @@
 -- One operation more, in what a replay keeps.
-use Rattle.std.proofs.Common.{◌≡◌, ◌≢◌, ℕ, ◌+◌, ◌*◌, ◌^◌, ◌<◌, ◌≤◌, ℤ, pos, neg_ℤ, ◌+ℤ◌, ◌≤ℤ◌, Bool, if◌then◌else◌, List, [], ◌∷◌, ◌++◌, length, get_or, sum, sym, ap, subst, ◌∙◌, arith}
+use Rattle.std.proofs.Common.{◌≡◌, ℕ, ◌+◌, ◌<◌, ◌≤◌, ℤ, pos, neg_ℤ, ◌+ℤ◌, ◌≤ℤ◌, if◌then◌else◌, List, [], ◌∷◌, ◌++◌, length, sum, sym, ap, subst, ◌∙◌, arith}
 use Rattle.std.proofs.lemmas.Int.{ints}
 use Rattle.std.proofs.lemmas.List.{length_push}
 use Rattle.crude_amounts.specs.Draw.{draw_of}
 use Rattle.crude_amounts.specs.Amounts.{weighted_of}
 use Rattle.plant_model.specs.declared.parts.Parts.{Parts}
 use Rattle.plant_model.specs.declared.details.Op.{Op}
-use Rattle.plant_model.specs.Parts.{crude_count_of, place_count_of, op_of}
-use Rattle.plant_model.specs.Relations.{is_charge, is_unload}
-use Rattle.plant_model.specs.Sound.{SoundOp, SoundPlant}
+use Rattle.plant_model.specs.Parts.{op_of}
+use Rattle.plant_model.specs.Relations.{is_charge}
+use Rattle.plant_model.specs.Sound.{SoundPlant}
 use Rattle.replay_core.specs.declared.timed.Timed.{Timed}
 use Rattle.replay_core.specs.declared.tally.Tally.{Tally}
 use Rattle.replay_core.specs.Replayed.{Replayed}
 use Rattle.replay_core.specs.State.{held_of, drawn_of, moved, after_step, state_after, draw_at}
 use Rattle.replay_core.specs.Levels.{HoldsWithin, CanMove}
-use Rattle.replay_core.specs.Tally.{HasRoom, AreTallies, CanCount}
+use Rattle.replay_core.specs.Tally.{AreTallies, CanCount}
 use Rattle.replay_core.specs.Legal.{op_faults, IsAccepted}
 use Rattle.replay_core.specs.Margin.{AreSmall, crude_margins_of, earned_at, margin_of}
 use Rattle.replay_core.proofs.StepLaws.{IsAccepted_push}
 use Rattle.replay_core.proofs.RuleLaws.{RunsSoundly, runs_soundly}
 use Rattle.replay_core.proofs.StateLaws.{holds_within-accepted, source_is_no_unit, places_apart, drawn-crudes, drawn-volume, state_after_push}
 use Rattle.replay_core.proofs.TallyLaws.{tallies_have_room}
-use Rattle.replay_core.proofs.MarginLaws.{EarnsWithin, earns_within-accepted, margin_of_push, crude_margins_are_small, length-crude_margins_of}
+use Rattle.replay_core.proofs.MarginLaws.{earns_within-accepted, margin_of_push, crude_margins_are_small, length-crude_margins_of}
 
 -- an operation that breaks no rule where others have run that broke none
 pub record MayRun (parts : Parts) (steps : List Timed) (t : Timed) : Type 0 where

@@ -1,14 +1,14 @@
 -- What holds of an operation that breaks no rule.
-use Rattle.std.proofs.Common.{◌≡◌, ◌⊎◌, ℕ, ◌+◌, ◌<◌, ◌≤◌, true, List, [], ◌++◌, length, sum, inl, inr, arith}
+use Rattle.std.proofs.Common.{◌≡◌, ◌⊎◌, ℕ, ◌+◌, ◌<◌, ◌≤◌, true, List, [], ◌++◌, sum, arith}
 use Rattle.std.proofs.lemmas.Bool.Decides.{nat_tests}
 use Rattle.item_lists.specs.Faults.{unless}
 use Rattle.item_lists.proofs.FaultLaws.{nil_of_append, holds_of_nil}
 use Rattle.plant_model.specs.declared.parts.Parts.{Parts}
-use Rattle.plant_model.specs.Parts.{horizon_of, op_count_of, place_count_of, op_of, place_of}
-use Rattle.plant_model.specs.Sound.{IsRange, SoundOp, SoundPlant}
+use Rattle.plant_model.specs.Parts.{horizon_of, op_count_of, op_of, place_of}
+use Rattle.plant_model.specs.Sound.{SoundOp, SoundPlant}
 use Rattle.replay_core.specs.declared.timed.Timed.{Timed}
 use Rattle.replay_core.specs.State.{held_of, state_after}
-use Rattle.replay_core.specs.Rules.{is_inside, is_unit, is_known, lasts, keeps_window, keeps_volume, meets_rate, starts_in_order, waits_for_others, keeps_vessel_order, leaves_minimum, keeps_maximum, meets_limits}
+use Rattle.replay_core.specs.Rules.{is_inside, is_unit, is_known, lasts, keeps_window, keeps_volume, meets_rate, waits_for_others, keeps_vessel_order, leaves_minimum, keeps_maximum, meets_limits}
 use Rattle.replay_core.specs.Legal.{broken, own_faults, order_faults, place_faults, op_faults, IsInRange}
 
 -- ---- the operation alone

@@ -1,16 +1,12 @@
 -- What holds of the state: how many crudes each place has, and how much at most.
-use Rattle.std.proofs.Common.{◌≡◌, ◌≢◌, ◌⊎◌, ℕ, suc, ◌+◌, ◌*◌, ◌^◌, ◌<◌, ◌≤◌, Bool, true, false, List, [], ◌∷◌, ◌++◌, map, length, get_or, set, sum, replicate, refl, sym, ap, subst, inl, inr, ◌∙◌, arith, get_or-set_same, get_or-set_other, ℤ}
-use Rattle.std.proofs.lemmas.List.{length-map, length-set, length-replicate, get_or-map, length_push}
+use Rattle.std.proofs.Common.{◌≡◌, ◌≢◌, ◌⊎◌, ℕ, ◌+◌, ◌*◌, ◌<◌, ◌≤◌, true, false, List, [], ◌∷◌, ◌++◌, map, length, get_or, set, sum, replicate, refl, sym, ap, subst, inl, inr, ◌∙◌, arith, get_or-set_same, get_or-set_other, ℤ}
+use Rattle.std.proofs.lemmas.List.{length-set, length-replicate, length_push}
 use Rattle.std.proofs.lemmas.List.Sums.{fold_push}
 use Rattle.std.proofs.lemmas.List.Folds.{sum_by-replicate}
 use Rattle.std.proofs.lemmas.Bool.{cases_eq, cases_Bool}
-use Rattle.crude_amounts.specs.Draw.{draw_of}
 use Rattle.crude_amounts.specs.Amounts.{mix_of, rest_of}
 use Rattle.crude_amounts.proofs.DrawLaws.{length-draw_of, sum-draw_of, draw_of-within}
 use Rattle.crude_amounts.proofs.MixLaws.{length-mix_of, sum-mix_of, length-rest_of, sum-rest_of}
-use Rattle.plant_model.specs.declared.parts.VesselPart.{VesselPart}
-use Rattle.plant_model.specs.declared.parts.TankPart.{TankPart}
-use Rattle.plant_model.specs.declared.parts.UnitPart.{UnitPart}
 use Rattle.plant_model.specs.declared.parts.Parts.{Parts}
 use Rattle.plant_model.specs.declared.details.PlaceKind.{PlaceKind}
 use Rattle.plant_model.specs.declared.details.PlaceKind.TheVariants.{Vessel, Storage, Charging, Unit as DistillationUnit}
@@ -18,13 +14,13 @@ use Rattle.plant_model.specs.declared.details.PlaceInfo.{PlaceInfo}
 use Rattle.plant_model.specs.declared.details.OpKind.{OpKind}
 use Rattle.plant_model.specs.declared.details.OpKind.TheVariants.{Unload, Transfer, Charge}
 use Rattle.plant_model.specs.declared.details.Op.{Op}
-use Rattle.plant_model.specs.Parts.{natural, per_place, vessel_info, storage_info, charging_info, unit_info, no_place, crude_count_of, place_count_of, places_of, place_of, place_amounts_of, initial_amounts_of, op_of}
-use Rattle.plant_model.specs.Sound.{HoldsCrude, IsRoute, IsRange, SoundPlace, SoundAmounts, SoundOp, SoundPlant}
+use Rattle.plant_model.specs.Parts.{natural, vessel_info, storage_info, charging_info, unit_info, no_place, crude_count_of, place_count_of, places_of, place_of, place_amounts_of, initial_amounts_of, op_of}
+use Rattle.plant_model.specs.Sound.{HoldsCrude, IsRoute, SoundOp, SoundPlant}
 use Rattle.replay_core.specs.declared.timed.Timed.{Timed}
 use Rattle.replay_core.specs.State.{initial_state, held_of, drawn_of, moved, after_step, state_after}
 use Rattle.replay_core.specs.Rules.{is_unit}
 use Rattle.replay_core.specs.Levels.{HoldsWithin}
-use Rattle.replay_core.specs.Legal.{op_faults, IsAccepted}
+use Rattle.replay_core.specs.Legal.{IsAccepted}
 use Rattle.replay_core.proofs.StepLaws.{along_accepted}
 use Rattle.replay_core.proofs.RuleLaws.{RunsSoundly, runs_soundly}
 use Rattle.replay_core.proofs.PlaceLists.{length-per_place, at_each_place}

@@ -1,5 +1,5 @@
 -- Laws of operations that run one after the other: one more at the end, and the first of them alone.
-use Rattle.std.proofs.Common.{◌≡◌, ℕ, ◌+◌, List, [], ◌∷◌, ◌++◌, length, Some, None, refl, sym, ap, subst, ◌∙◌, append_assoc, arith}
+use Rattle.std.proofs.Common.{◌≡◌, ◌+◌, List, [], ◌∷◌, ◌++◌, length, Some, refl, sym, ap, subst, ◌∙◌, append_assoc}
 use Rattle.std.proofs.lemmas.List.{append-nil}
 use Rattle.item_lists.specs.Faults.{first_of}
 use Rattle.item_lists.proofs.FaultLaws.{first_of-front, nil_of_append, nil_of_none}

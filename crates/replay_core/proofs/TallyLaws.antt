@@ -1,24 +1,20 @@
 -- Laws of tallies and of latest ends: one more operation.
-use Rattle.std.proofs.Common.{◌≡◌, ◌≢◌, ℕ, zero, suc, ◌+◌, ◌-◌, ◌*◌, ◌^◌, ◌<◌, ◌≤◌, max, Bool, true, false, not, ◌&&◌, ◌||◌, eqb, leb, if◌then◌else◌, List, [], ◌∷◌, ◌++◌, fold, length, get_or, set, replicate, refl, sym, ap, subst, inl, inr, ◌∙◌, arith}
-use Rattle.std.specs.List.{sum_by, count_by, list_all}
+use Rattle.std.proofs.Common.{◌≡◌, ◌≢◌, ℕ, ◌+◌, ◌-◌, ◌*◌, ◌<◌, ◌≤◌, max, Bool, true, false, eqb, if◌then◌else◌, List, [], ◌∷◌, ◌++◌, length, get_or, set, replicate, refl, sym, ap, subst, inl, inr, ◌∙◌, arith}
 use Rattle.std.proofs.lemmas.List.{length-set, length_push, length-replicate, get_or-replicate, get_or-set_same, get_or-set_other}
 use Rattle.std.proofs.lemmas.List.Sums.{sum_by_push, fold_push}
-use Rattle.std.proofs.lemmas.Bool.{cases_eq, cases_Bool, eqb-true, eq-eqb, ne_eqb}
-use Rattle.std.proofs.lemmas.Bool.Decides.{nat_tests}
+use Rattle.std.proofs.lemmas.Bool.{cases_eq, eq-eqb, ne_eqb}
 use Rattle.plant_model.specs.declared.parts.Parts.{Parts}
-use Rattle.plant_model.specs.declared.details.Op.{Op}
 use Rattle.plant_model.specs.Parts.{op_count_of, place_count_of, op_of}
-use Rattle.plant_model.specs.Relations.{is_unload, is_charge, refused_at_once_of}
+use Rattle.plant_model.specs.Relations.{is_unload}
 use Rattle.plant_model.specs.Sound.{SoundPlant}
 use Rattle.replay_core.specs.declared.timed.Timed.{Timed}
 use Rattle.replay_core.specs.declared.tally.Tally.{Tally}
-use Rattle.replay_core.specs.State.{state_after}
 use Rattle.replay_core.specs.Counts.{charges_unit, charges_from, charges_of, minutes_of, charged_of}
 use Rattle.replay_core.specs.Tally.{tally_of, tally_after, HasRoom, AreTallies}
 use Rattle.replay_core.specs.Ends.{last_end_of, last_vessel_of, AreEnds}
-use Rattle.replay_core.specs.Legal.{op_faults, IsAccepted}
+use Rattle.replay_core.specs.Legal.{IsAccepted}
 use Rattle.replay_core.proofs.StepLaws.{along_accepted}
-use Rattle.replay_core.proofs.RuleLaws.{RunsSoundly, runs_soundly}
+use Rattle.replay_core.proofs.RuleLaws.{runs_soundly}
 
 -- ---- tallies
 

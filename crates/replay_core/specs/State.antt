@@ -1,6 +1,6 @@
 -- What every place holds while operations run one after the other: amounts crude by crude, in the order of places.
 -- A unit holds what it has got so far.
-use Rattle.std.specs.Prelude.{ℕ, ◌+◌, List, [], ◌∷◌, map, fold, replicate, slice_index_or, slice_set}
+use Rattle.std.specs.Prelude.{ℕ, List, [], map, fold, replicate, slice_index_or, slice_set}
 use Rattle.crude_amounts.specs.Draw.{draw_of}
 use Rattle.crude_amounts.specs.Amounts.{mix_of, rest_of}
 use Rattle.plant_model.specs.declared.parts.Parts.{Parts}

@@ -1,4 +1,4 @@
-use Rattle.std.proofs.Common.{◌≡◌, ℕ, [], replicate, sym, ap, subst, ◌∙◌}
+use Rattle.std.proofs.Common.{ℕ, [], replicate, sym, ap, subst, ◌∙◌}
 use Rattle.std.proofs.lemmas.Result.{IfOk-weaker}
 use Rattle.replay_core.specs.Tally.{AreTallies}
 use Rattle.replay_core.proofs.TallyLaws.{AreTallies-first}

@@ -1,7 +1,7 @@
-use Rattle.std.proofs.Common.{◌≡◌, ◌≢◌, ℕ, ◌+◌, ◌*◌, ◌<◌, ◌≤◌, get_or, set, length, sum, sym, ap, ◌∙◌, below_more, get_or-set_same, get_or-set_other, arith}
+use Rattle.std.proofs.Common.{◌≡◌, ◌≢◌, ℕ, ◌<◌, get_or, length, sum, sym, ap, ◌∙◌, below_more, get_or-set_same, get_or-set_other, arith}
 use Rattle.std.proofs.lemmas.List.{length-set, ext_get_or}
 use Rattle.std.proofs.lemmas.List.Sums.{sum_by-set}
-use Rattle.plant_model.specs.Parts.{crude_count_of, initial_amounts_of, initial_of}
+use Rattle.plant_model.specs.Parts.{initial_amounts_of, initial_of}
 use Rattle.replay_core.proofs.StateLaws.{held-first}
 use Rattle.replay_core.proofs.state.first_amounts.Goals as goal
 

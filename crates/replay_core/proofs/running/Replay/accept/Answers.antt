@@ -1,4 +1,4 @@
-use Rattle.std.proofs.Common.{◌≡◌, ℕ, ◌+◌, ◌<◌, ◌≤◌, max, pos, ◌+ℤ◌, if◌then◌else◌, List, [], ◌∷◌, ◌++◌, length, set, get_or, sym, ap, subst, ◌∙◌, arith, to_z, of_z, w64, ℤ}
+use Rattle.std.proofs.Common.{◌≡◌, ℕ, max, ◌+ℤ◌, if◌then◌else◌, List, [], ◌∷◌, ◌++◌, length, get_or, sym, ap, subst, ◌∙◌, arith, to_z, of_z, w64}
 use Rattle.std.proofs.lemmas.Int.{ints}
 use Rattle.std.proofs.lemmas.List.{with_items_is, length_push}
 use Rattle.std.specs.Vec.{with_items}
@@ -6,7 +6,6 @@ use Rattle.plant_model.specs.declared.details.Op.{Op}
 use Rattle.plant_model.specs.Parts.{op_of}
 use Rattle.plant_model.specs.Relations.{is_unload}
 use Rattle.replay_core.specs.declared.timed.Timed.{Timed}
-use Rattle.replay_core.specs.declared.tally.Tally.{Tally}
 use Rattle.replay_core.specs.Replayed.{Replayed}
 use Rattle.replay_core.specs.State.{state_after, draw_at}
 use Rattle.replay_core.specs.Tally.{AreTallies, tally_after}
@@ -14,7 +13,6 @@ use Rattle.replay_core.specs.Ends.{last_vessel_of, AreEnds}
 use Rattle.replay_core.specs.Legal.{IsAccepted}
 use Rattle.replay_core.specs.Margin.{margin_of}
 use Rattle.replay_core.proofs.StepLaws.{IsAccepted_push}
-use Rattle.replay_core.proofs.RuleLaws.{RunsSoundly}
 use Rattle.replay_core.proofs.TallyLaws.{AreTallies_push, AreEnds_push, last_vessel_of_push}
 use Rattle.replay_core.proofs.ReplayLaws.{seen, may_run, run_of, can_move, draw_is, moved_is, can_count, can_earn, earned_is, margins_fit}
 use Rattle.replay_core.proofs.running.Replay.accept.Goals as goal

@@ -1,4 +1,4 @@
-use Rattle.std.proofs.Common.{◌≡◌, ◌<◌, ◌≤◌, List, ℕ, length, sym, ap, subst, ◌∙◌, arith}
+use Rattle.std.proofs.Common.{◌<◌, length, sym, ap, subst, arith}
 use Rattle.plant_model.specs.declared.parts.Parts.{Parts}
 use Rattle.plant_model.specs.Parts.{op_count_of}
 use Rattle.replay_core.specs.Levels.{HoldsWithin}

@@ -1,5 +1,4 @@
-use Rattle.std.proofs.Common.{◌≡◌, List, ℕ, sym, subst}
-use Rattle.replay_core.specs.declared.tally.Tally.{Tally}
+use Rattle.std.proofs.Common.{List, ℕ, sym, subst}
 use Rattle.replay_core.specs.Replayed.{Replayed}
 use Rattle.replay_core.specs.Ends.{AreEnds}
 use Rattle.replay_core.proofs.running.Replay.ends.Goals as goal

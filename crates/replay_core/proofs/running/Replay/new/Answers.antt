@@ -1,7 +1,6 @@
-use Rattle.std.proofs.Common.{◌≡◌, ◌≤◌, ℕ, [], List, pos, length, sym, ap, subst, ◌∙◌, refl, arith}
+use Rattle.std.proofs.Common.{◌≡◌, [], List, length, sym, ap, subst, ◌∙◌, arith}
 use Rattle.replay_core.specs.declared.timed.Timed.{Timed}
-use Rattle.replay_core.specs.declared.tally.Tally.{Tally}
-use Rattle.replay_core.specs.State.{initial_state, state_after}
+use Rattle.replay_core.specs.State.{state_after}
 use Rattle.replay_core.specs.Tally.{AreTallies}
 use Rattle.replay_core.specs.Ends.{AreEnds, last_vessel_of}
 use Rattle.replay_core.specs.Legal.{IsAccepted}

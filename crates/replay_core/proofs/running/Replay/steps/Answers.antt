@@ -1,4 +1,4 @@
-use Rattle.std.proofs.Common.{◌≡◌, ◌≤◌, length, ap, subst, ◌∙◌}
+use Rattle.std.proofs.Common.{◌≤◌, length, ap, subst, ◌∙◌}
 use Rattle.replay_core.specs.Replayed.{Replayed}
 use Rattle.replay_core.specs.Legal.{IsAccepted}
 use Rattle.replay_core.proofs.running.Replay.steps.Goals as goal

@@ -1,4 +1,4 @@
-use Rattle.std.proofs.Common.{◌≡◌, List, ℕ, sym, subst}
+use Rattle.std.proofs.Common.{List, sym, subst}
 use Rattle.replay_core.specs.declared.tally.Tally.{Tally}
 use Rattle.replay_core.specs.Replayed.{Replayed}
 use Rattle.replay_core.specs.Tally.{AreTallies}
