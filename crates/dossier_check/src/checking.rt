@@ -9,6 +9,7 @@ ghost use Rattle.dossier_check.specs.Verdicts.{Tests, IsVerdict, IsVerdictOn, Is
 
 use crate::laws::{accepted_claim_laws, reason_laws};
 use crate::plan::check_plan;
+use crate::reasons::{ANSWER, BOUND, FORM, INVALID_CUT, SLOTS, TOO_MANY};
 use crate::tree::check_tree;
 use crate::verdict::{Claim, Reason, Refusal, Verdict};
 use dossier_text::{Dossier, DossierFault, Word3, read_dossier};
@@ -37,7 +38,7 @@ fn check_slots(dossier: &Dossier) -> Result<(), Reason>
 {
     expect(
         1 <= dossier.slots && dossier.slots <= 40,
-        Reason { reason: 3, line: 3 },
+        Reason::at(SLOTS, 3),
     )
 }
 
@@ -49,7 +50,7 @@ fn check_cuts(dossier: &Dossier, line: u32) -> Result<(), Reason>
 {
     match dossier.cuts.as_slice().first() {
         None => Ok(()),
-        Some(_) => Err(Reason { reason: 12, line }),
+        Some(_) => Err(Reason::at(INVALID_CUT, line)),
     }
 }
 
@@ -81,20 +82,8 @@ fn fits_answer(dossier: &Dossier) -> bool
 fn check_answer(dossier: &Dossier, greatest: Option<i64>) -> Result<(), Reason>
     ensures { result_err result ≡ first_of (claim_reasons dossier.now greatest) }
 {
-    expect(
-        is_same(dossier.bound, greatest),
-        Reason {
-            reason: 15,
-            line: 7,
-        },
-    )?;
-    expect(
-        fits_answer(dossier),
-        Reason {
-            reason: 16,
-            line: 5,
-        },
-    )
+    expect(is_same(dossier.bound, greatest), Reason::at(BOUND, 7))?;
+    expect(fits_answer(dossier), Reason::at(ANSWER, 5))
 }
 
 /// Tests a dossier that was read: what it gives.
@@ -131,8 +120,11 @@ pub fn check(alloc: Global, plant: &Plant, bytes: &[u8]) -> Result<Verdict, Allo
     reason_laws(plant);
     match read_dossier(alloc, bytes) {
         Ok(dossier) => verdict_on(alloc, plant, &dossier),
-        Err(DossierFault::Line(line)) => Ok(Verdict::No { reason: 1, line }),
-        Err(DossierFault::TooMany(line)) => Ok(Verdict::No { reason: 2, line }),
+        Err(DossierFault::Line(line)) => Ok(Verdict::No { reason: FORM, line }),
+        Err(DossierFault::TooMany(line)) => Ok(Verdict::No {
+            reason: TOO_MANY,
+            line,
+        }),
         Err(DossierFault::Memory) => Err(AllocError),
     }
 }

@@ -8,6 +8,7 @@ ghost use Rattle.slot_box.specs.Boxes.{points_of, only_point};
 ghost use Rattle.leaf_value.specs.LeafValue.{point_value, leaf_value_of};
 ghost use Rattle.dossier_check.specs.NodeReasons.{reason, term_reasons, terms_reasons, bounding_reasons, leaf_reasons};
 
+use crate::reasons::{CUT, CUT_ROW, DEAD, LIMITS, POINT, ROW, VOID};
 use crate::verdict::Reason;
 use item_lists::expect;
 use leaf_value::{plain_value, point_value};
@@ -25,13 +26,13 @@ fn check_term(cuts: u32, line: u32, term: Term) -> Result<(), Reason>
 {
     match term {
         Term::Row { name: _, y } => {
-            expect(y <= MOST, Reason { reason: 9, line })?;
-            Err(Reason { reason: 10, line })
+            expect(y <= MOST, Reason::at(LIMITS, line))?;
+            Err(Reason::at(ROW, line))
         }
         Term::Cut { cut, y, .. } => {
-            expect(y <= MOST, Reason { reason: 9, line })?;
-            expect(cut < cuts, Reason { reason: 11, line })?;
-            Err(Reason { reason: 13, line })
+            expect(y <= MOST, Reason::at(LIMITS, line))?;
+            expect(cut < cuts, Reason::at(CUT, line))?;
+            Err(Reason::at(CUT_ROW, line))
         }
     }
 }
@@ -51,7 +52,7 @@ fn check_terms(cuts: u32, line: u32, terms: &[Term]) -> Result<(), Reason>
 fn check_bounding(cuts: u32, line: u32, q: u64, terms: &[Term]) -> Result<(), Reason>
     ensures { result_err result ≡ first_of (bounding_reasons cuts line q terms.now) }
 {
-    expect(1 <= q && q <= MOST, Reason { reason: 9, line })?;
+    expect(1 <= q && q <= MOST, Reason::at(LIMITS, line))?;
     check_terms(cuts, line, terms)
 }
 
@@ -61,7 +62,7 @@ fn check_void(cuts: u32, line: u32, terms: &[Term]) -> Result<(), Reason>
     ensures { result_err result ≡ first_of (terms_reasons cuts line terms.now ++ reason 14 line ∷ []) }
 {
     check_terms(cuts, line, terms)?;
-    Err(Reason { reason: 14, line })
+    Err(Reason::at(VOID, line))
 }
 
 /// Tests a leaf in this line over its box.
@@ -70,11 +71,11 @@ pub(crate) fn check_leaf(cuts: u32, line: u32, bx: &SlotBox, leaf: &Leaf) -> Res
     ensures { result_err result ≡ first_of (leaf_reasons cuts line bx.now leaf.now) }
 {
     match leaf {
-        Leaf::Dead { .. } => Err(Reason { reason: 7, line }),
+        Leaf::Dead { .. } => Err(Reason::at(DEAD, line)),
         Leaf::Void { terms } => check_void(cuts, line, terms.as_slice()),
         Leaf::Dual { q, terms } => check_bounding(cuts, line, *q, terms.as_slice()),
         Leaf::Undone { q, terms } => check_bounding(cuts, line, *q, terms.as_slice()),
-        Leaf::Point => expect(bx.is_point(), Reason { reason: 8, line }),
+        Leaf::Point => expect(bx.is_point(), Reason::at(POINT, line)),
     }
 }
 

@@ -23,6 +23,7 @@ mod laws;
 mod leaves;
 mod met;
 mod plan;
+mod reasons;
 #[cfg(test)]
 mod tests;
 mod tree;

@@ -8,6 +8,7 @@ ghost use Rattle.dossier_check.specs.Plans.{timed_of, plan_of};
 ghost use Rattle.dossier_check.specs.Reasons.{rule_reason, plan_reasons, margin_reasons, given_reasons};
 ghost use Rattle.dossier_check.specs.Verdicts.{Tests};
 
+use crate::reasons::{MARGIN, PLAN};
 use crate::verdict::{Reason, Refusal};
 use item_lists::{Copies, expect};
 use plan_text::{OpLine, OpLines};
@@ -46,10 +47,7 @@ fn rule_reason(broken: Broken) -> Reason
     requires { broken.rule ≤ 11 → broken.at ≤ 1000 }
     ensures { result ≡ rule_reason broken }
 {
-    Reason {
-        reason: 17,
-        line: if broken.rule <= 11 { 8 + broken.at } else { 8 },
-    }
+    Reason::at(PLAN, if broken.rule <= 11 { 8 + broken.at } else { 8 })
 }
 
 /// Replays a plan of at most so many operations.
@@ -66,10 +64,7 @@ fn check_rules(
 {
     expect(
         steps.len() <= slots as usize,
-        Reason {
-            reason: 17,
-            line: 8 + slots + 1,
-        },
+        Reason::at(PLAN, 8 + slots + 1),
     )?;
     match replay(alloc, plant, steps) {
         Ok(outcome) => Ok(outcome),
@@ -84,13 +79,7 @@ fn check_margin(margin: Option<i64>, earned: i64) -> Result<(), Reason>
 {
     match margin {
         None => Ok(()),
-        Some(margin) => expect(
-            margin == earned,
-            Reason {
-                reason: 18,
-                line: 6,
-            },
-        ),
+        Some(margin) => expect(margin == earned, Reason::at(MARGIN, 6)),
     }
 }
 

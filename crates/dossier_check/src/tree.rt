@@ -15,6 +15,7 @@ ghost use Rattle.dossier_check.specs.Walks.{Keeps, MeetsInner, Meets};
 
 use crate::leaves::{check_leaf, leaf_value};
 use crate::met::Met;
+use crate::reasons::{PARENT, SPLIT, TICKET};
 use crate::verdict::{Reason, Refusal};
 use dossier_text::Dossier;
 use item_lists::expect;
@@ -49,7 +50,7 @@ fn parts(
     let _ = bx.len();
     match bx.split(alloc, split) {
         Ok(parts) => Ok(parts),
-        Err(SplitFault::BadSplit) => Err(Refusal::First(Reason { reason: 6, line })),
+        Err(SplitFault::BadSplit) => Err(Refusal::First(Reason::at(SPLIT, line))),
         Err(SplitFault::Memory) => Err(Refusal::Memory),
     }
 }
@@ -67,7 +68,7 @@ fn meet_inner(
     requires nodes { length met.old.waiting.items ≡ 2 * length met.old.held.items + 1 }
     ensures { (root : List Slot) (earlier : List Holder) (id : ℕ) → Keeps root (length met.old.held.items) earlier id met.old → MeetsInner root (length met.old.held.items) earlier id line bx.now ticket split met.new result }
 {
-    expect(met.is_free(ticket), Reason { reason: 4, line })?;
+    expect(met.is_free(ticket), Reason::at(TICKET, line))?;
     let (left, right) = parts(alloc, bx, line, split)?;
     met.hold(ticket, left, right);
     Ok(())
@@ -107,7 +108,7 @@ fn meet(
 {
     let line = frame.first_line + id;
     let Some(bx) = met.take(id) else {
-        return Err(Refusal::First(Reason { reason: 5, line }));
+        return Err(Refusal::First(Reason::at(PARENT, line)));
     };
     match node {
         Node::Inner { ticket, split } => {

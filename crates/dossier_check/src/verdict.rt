@@ -1,4 +1,5 @@
 ghost use Rattle.std.specs.Prelude.{◌≡◌};
+ghost use Rattle.dossier_check.specs.NodeReasons.{reason as reason_at};
 ghost use Rattle.dossier_check.specs.declared.verdict.Refusal.TheVariants.{First, Memory};
 
 use dossier_text::Word3;
@@ -10,6 +11,15 @@ use std::alloc::AllocError;
 pub(crate) struct Reason {
     pub(crate) reason: u8,
     pub(crate) line: u32,
+}
+
+impl Reason {
+    /// The reason of this number, which stands in this line.
+    pub(crate) fn at(reason: u8, line: u32) -> Reason
+        ensures { result ≡ reason_at reason line }
+    {
+        Reason { reason, line }
+    }
 }
 
 /// What an accepted dossier claims.

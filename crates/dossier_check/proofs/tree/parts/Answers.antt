@@ -11,4 +11,5 @@ returns-in-Ok-clause-reasons c =
 
 pub returns-in-Err-BadSplit-clause-reasons : goal.returns-in-Err-BadSplit-clause-reasons
 returns-in-Err-BadSplit-clause-reasons c =
-    ap (λ test. first_of (unless test (reason 6 c.args.line))) (refused_by_test c.args.bx.now c.args.split c.len.ensures.shape (c.split.ensures.bad.0 (search rules)))
+    rw c.at.ensures
+    (ap (λ test. first_of (unless test (reason 6 c.args.line))) (refused_by_test c.args.bx.now c.args.split c.len.ensures.shape (c.split.ensures.bad.0 (search rules))))
