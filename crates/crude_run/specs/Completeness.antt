@@ -28,8 +28,8 @@ pub record IsPlantAtHand (files : Files) (name : List ℕ) (parts : Parts) : Typ
 abbrev pub NoWriteFailed : Outlet → Type 0
 NoWriteFailed outlet = Rose outlet.faults_before outlet.faults_after → ⊥
 
--- the status is that of a dossier, or memory was wanting; with a budget that can single out each point of the root box it is not
--- that no plan was found
+-- the status is that of a dossier, or memory was wanting; that no plan was found it says only with a budget that cannot single
+-- out each point of the root box
 abbrev pub HasDossierStatus : Parts → Ask → ℕ → Type 0
 HasDossierStatus parts ask status =
     (status ≡ status_plan_found) ⊎ (status ≡ status_infeasible) ⊎ ((status ≡ status_none_found) × (points_of (root_box_of parts ask.slots) ≤ ask.nodes + 1 → ⊥)) ⊎ (status ≡ status_no_memory)

@@ -39,7 +39,7 @@ status_read_failed = 66
 abbrev pub status_too_long : ℕ
 status_too_long = 67
 
--- the plant has a form that is not built yet
+-- the plant has a section that is not built yet
 abbrev pub status_not_yet : ℕ
 status_not_yet = 69
 

@@ -14,6 +14,7 @@ use std::alloc::{AllocError, Global};
 /// A status with the whole text that goes with it.
 #[derive(Debug, Drop)]
 pub struct Answer {
+    /// The status that goes with the text.
     pub status: Status,
     /// Each of its lines ends with a line feed.
     pub text: Text,

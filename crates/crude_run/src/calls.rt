@@ -33,7 +33,7 @@ pub fn run<H: Shelf, K: Sink, G: Gate>(
     serve(alloc, words, shelf, out, gate)
 }
 
-/// Does what the words ask for.
+/// Serves the command of the words, or refuses them.
 fn serve<H: Shelf, K: Sink, G: Gate>(
     alloc: Global,
     words: &[String],

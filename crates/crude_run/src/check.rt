@@ -6,7 +6,7 @@ ghost use Rattle.crude_run.specs.Answered.{Serves, Answered, outlet_between};
 ghost use Rattle.crude_run.specs.Stopping.{IfDue};
 
 use crate::answer::{Answer, accepted, not_accepted};
-use crate::files::DOSSIER_LIMIT;
+use crate::files::{DOSSIER_FILE, DOSSIER_LIMIT};
 use crate::opening::{Stop, open_file, open_plant};
 use crate::send::finish;
 use crate::status::Status;
@@ -40,7 +40,7 @@ fn check_both<H: Shelf>(
     ensures { IfDue result (Serves (Check plant.now dossier.now) (files_between H.told H.faults H.longs shelf.old shelf.new)) }
 {
     let plant = open_plant(alloc, plant, shelf)?;
-    let bytes = open_file(alloc, 2, dossier, DOSSIER_LIMIT, shelf)?;
+    let bytes = open_file(alloc, DOSSIER_FILE, dossier, DOSSIER_LIMIT, shelf)?;
     let answer = check_text(alloc, &plant, &bytes)?;
     Ok(answer)
 }

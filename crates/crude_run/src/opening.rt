@@ -7,7 +7,7 @@ ghost use Rattle.crude_run.specs.Answered.{OfPlant, OfFile, OfPlantFile};
 ghost use Rattle.crude_run.specs.Stopping.{IfStopped, NoAnswer, MayGivePlant, IsLater, stop_of};
 
 use crate::answer::{Answer, not_yet, plant_refused, read_failed, too_long};
-use crate::files::PLANT_LIMIT;
+use crate::files::{PLANT_FILE, PLANT_LIMIT};
 use outer_edge::{Shelf, ShelfFault};
 use plant_model::Plant;
 use plant_text::{PlantTextFault, read_plant};
@@ -84,6 +84,6 @@ pub(crate) fn open_plant<H: Shelf>(alloc: Global, name: &str, shelf: &mut H) -> 
     ensures stopped { IfStopped result (OfPlantFile (files_between H.told H.faults H.longs shelf.old shelf.new) name.now NoAnswer) }
     ensures later { IsLater H.told H.faults H.longs shelf.old shelf.new }
 {
-    let text = open_file(alloc, 1, name, PLANT_LIMIT, shelf)?;
+    let text = open_file(alloc, PLANT_FILE, name, PLANT_LIMIT, shelf)?;
     plant_of_text(alloc, &text)
 }

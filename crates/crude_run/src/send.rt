@@ -13,8 +13,7 @@ pub(crate) fn finish<K: Sink>(outcome: Result<Answer, Stop>, out: &mut K) -> Sta
     ensures { Answered (IsDue outcome) (outlet_between K.taken K.faults out.old out.new) result }
 {
     match outcome {
-        Ok(answer) => send(&answer, out),
-        Err(Stop::Due(answer)) => send(&answer, out),
+        Ok(answer) | Err(Stop::Due(answer)) => send(&answer, out),
         Err(Stop::Memory) => Status::new(NO_MEMORY),
     }
 }

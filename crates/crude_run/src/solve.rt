@@ -18,8 +18,9 @@ use outer_edge::{Gate, Shelf, Sink};
 use plant_model::Plant;
 use std::alloc::{AllocError, Global};
 
-/// Plans for a plant: a legal plan of at most `slots` operations, where one is found, and a bound that no such
-/// plan exceeds, by a tree of at most `nodes` inner nodes.
+/// Plans for a plant, by one worker: the status and the text of a dossier, with a legal plan of at most `slots`
+/// operations, where one is found, and a bound that no such plan exceeds, by a tree of at most `nodes` inner
+/// nodes.
 pub fn solve_alone<G: Gate>(
     alloc: Global,
     plant: &Plant,

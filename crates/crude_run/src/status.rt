@@ -20,7 +20,7 @@ pub const PLANT_REFUSED: u8 = 65;
 pub const READ_FAILED: u8 = 66;
 /// A file has more bytes than its limit.
 pub const TOO_LONG: u8 = 67;
-/// The plant has a form that is not built yet.
+/// The plant has a section that is not built yet.
 pub const NOT_YET: u8 = 69;
 /// Memory ran out.
 pub const NO_MEMORY: u8 = 71;

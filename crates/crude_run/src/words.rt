@@ -37,6 +37,7 @@ pub struct Ask {
     pub slots: u32,
     /// The most inner nodes of the search tree.
     pub nodes: u32,
+    /// How many threads search, so far 1.
     pub workers: u32,
 }
 
@@ -76,22 +77,22 @@ pub fn read_words(alloc: Global, words: &[String]) -> Result<Command, WordFault>
     ensures refused { result ≡ Err WordFault.Words → AreRefused (map string_bytes words.now) }
 {
     if let Some(ask) = read_solve_line(words) {
-        let plant = file_name(&words[1])?;
+        let plant = file_name(alloc, words[1].as_str())?;
         return Ok(Command::Solve { plant, ask });
     }
     if is_check_line(words) {
-        let plant = file_name(&words[1])?;
-        let dossier = file_name(&words[2])?;
+        let plant = file_name(alloc, words[1].as_str())?;
+        let dossier = file_name(alloc, words[2].as_str())?;
         return Ok(Command::Check { plant, dossier });
     }
     Err(WordFault::Words)
 }
 
 /// The word as the name of a file.
-fn file_name(word: &String) -> Result<FileName, AllocError>
-    ensures { IfOk result (λ name. name ≡ string_bytes word.now) }
+fn file_name(alloc: Global, word: &str) -> Result<FileName, AllocError>
+    ensures { IfOk result (λ name. name ≡ word.now) }
 {
-    let text = word.clone()?;
+    let text = String::from_str(alloc, word)?;
     Ok(FileName { text })
 }
 

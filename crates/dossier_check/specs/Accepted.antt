@@ -10,7 +10,8 @@ use Rattle.replay_core.specs.Claim.{IsPlanOf}
 use Rattle.dossier_check.specs.Plans.{plan_of}
 use Rattle.dossier_check.specs.Nodes.{AreTickets, HaveParents, AreLawful, IsBoundOf}
 
--- what goes with each answer: plan and margin with a plan alone, a bound with what is open, and none where there is no plan
+-- what goes with each answer: with `plan` a plan and its margin, whatever the bound, which is asked for by itself; with
+-- `infeasible` none of the three; with `open` a bound alone
 abbrev pub FitsAnswer : Word3 → Option ℤ → Option ℤ → Option (List OpLine) → Type 0
 FitsAnswer Plan (Some margin) bound (Some lines) = Unit {0}
 FitsAnswer Infeasible None None None = Unit {0}

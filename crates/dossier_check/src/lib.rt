@@ -2,7 +2,7 @@
 //!
 //! A dossier gives an answer and a search tree that shows it. It is accepted where its tree divides the
 //! root box of its plant lawfully, its bound is the greatest value of a leaf, and a plan that it gives
-//! earns what it says.
+//! is legal and earns what it says.
 //!
 //! To the crates above this crate promises that [`check`] says yes exactly where bytes are the text of an
 //! accepted dossier, with what it gives, and otherwise no, with the first reason and its line; and that what a

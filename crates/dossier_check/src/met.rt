@@ -59,7 +59,7 @@ impl Met {
         self.waiting[id as usize].take()
     }
 
-    /// Whether the ticket is one of those that may be held, and is not.
+    /// Whether the ticket is one of those that there are, and no node holds it yet.
     pub(crate) fn is_free(&self, ticket: u32) -> bool
         ensures { result ≡ (nat_lt ticket (length self.now.held.items) && not (slice_index_or self.now.held.items ticket false)) }
     {

@@ -27,13 +27,13 @@ impl Reason {
 pub struct Claim {
     /// The most operations of the plans that it speaks of.
     pub slots: u32,
-    /// What it says of them: one is given, there is none, or it is open.
+    /// What it claims of them: a plan with a bound, that there is none, or a bound alone.
     pub answer: Word3,
-    /// A legal plan.
+    /// With `answer plan`: a legal plan of at most `slots` operations.
     pub plan: Option<Word>,
-    /// What that plan earns.
+    /// What that plan earns, in margin units.
     pub margin: Option<i64>,
-    /// What no legal plan of so many operations exceeds.
+    /// What no legal plan of at most `slots` operations exceeds, in margin units.
     pub bound: Option<i64>,
 }
 
@@ -43,7 +43,12 @@ pub enum Verdict {
     /// They are, and it claims this.
     Yes(Claim),
     /// They are not, for this reason first.
-    No { reason: u8, line: u32 },
+    No {
+        /// Its number, 1 to 18.
+        reason: u8,
+        /// Where it stands in the text, from line 1 on.
+        line: u32,
+    },
 }
 
 /// Why a test was not passed.

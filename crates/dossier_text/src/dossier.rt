@@ -30,13 +30,14 @@ pub type CutLines = Items<CutLine>;
 /// A claim on a plant, and the search tree that shows it.
 #[derive(Debug, Drop)]
 pub struct Dossier {
+    /// The most operations of the plans that it speaks of.
     pub slots: u32,
     /// The number of inner nodes of the tree.
     pub nodes: u32,
     pub answer: Word3,
-    /// The plan's, in money.
+    /// What the plan earns, in margin units.
     pub margin: Option<i64>,
-    /// On the margin of every legal plan of at most so many operations as there are slots.
+    /// What no legal plan of at most `slots` operations exceeds, in margin units.
     pub bound: Option<i64>,
     pub plan: Option<OpLines>,
     pub cuts: CutLines,

@@ -110,7 +110,7 @@ meets_limit parts v volume drawn k =
     let limit = limit_of parts v k in
     is_inside (limit.0 * volume, limit.1 * volume) (content_of parts k drawn)
 
--- 11: a charge draws crude of the properties that its unit takes
+-- 11: what a charge draws has each property within the limits of that charge
 unfoldable pub meets_limits : Parts → List (List ℕ) → Timed → Bool
 meets_limits parts state t =
     not (is_charge (op_of parts t.op).kind)

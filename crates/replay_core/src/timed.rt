@@ -4,9 +4,13 @@ use item_lists::{Copies, Items};
 /// An operation at its time: minutes from the start of the horizon, and volume units.
 #[derive(Clone, Copy, Debug, PartialEq, Eq)]
 pub struct Timed {
+    /// The operation's number in the plant, from 0.
     pub op: u8,
+    /// In minutes.
     pub start: u32,
+    /// In minutes.
     pub end: u32,
+    /// In volume units.
     pub volume: u32,
 }
 
