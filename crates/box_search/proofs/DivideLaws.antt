@@ -5,7 +5,6 @@ use Rattle.std.specs.List.{AllByRecursion}
 use Rattle.std.proofs.lemmas.List.{append_assoc}
 use Rattle.std.proofs.lemmas.Bool.{cases_eq, cases_lt}
 use Rattle.std.proofs.lemmas.Option.{slice_get_within}
-use Rattle.plant_model.specs.declared.parts.Parts.{Parts}
 use Rattle.slot_box.specs.declared.node.Leaf.{Leaf as LeafKind}
 use Rattle.slot_box.specs.declared.node.Leaf.TheVariants.{Dead, Void, Dual, Undone, Point}
 use Rattle.slot_box.specs.declared.node.Node.{Node}
@@ -14,28 +13,31 @@ use Rattle.slot_box.specs.declared.slot.Slot.{Slot}
 use Rattle.slot_box.specs.declared.split.Split.{Split}
 use Rattle.slot_box.specs.Laws.{SharesCount}
 use Rattle.slot_box.specs.Splits.{IsLawfulSplit}
-use Rattle.leaf_value.specs.PlainValue.{root_box_of}
-use Rattle.dossier_check.specs.Nodes.{IsLeaf}
+use Rattle.slot_forms.specs.Cases.{root_box}
+use Rattle.leaf_value.specs.Settings.{Setting}
+use Rattle.slot_box.specs.Nodes.{IsLeaf}
 use Rattle.box_search.specs.declared.search.Pending.{Pending}
-use Rattle.box_search.specs.Growing.{IsBoxAt, open_leaf, tree_divided, boxes_divided}
-use Rattle.box_search.specs.Searching.{IsClosed, IsSettled, IsPending, IsWaiting, AreApart, IsFoundValue, IsUnderway}
+use Rattle.box_search.specs.inside.Growing.{IsBoxAt, open_leaf, tree_divided, boxes_divided}
+use Rattle.box_search.specs.inside.Searching.{IsClosed, IsSettled, IsPending, IsWaiting, AreApart, IsFoundValue, IsUnderway}
 use Rattle.box_search.proofs.GrowthLaws.{IsGrown-divided, kept, divided_there, box_kept, box_was, box_within}
 use Rattle.box_search.proofs.SettleLaws.{last_waits, front_waits, front_apart, others_wait, found_elsewhere}
 use Rattle.box_search.proofs.WaitingLaws.{All-push, IsWaiting-push, IsWaiting-front, IsWaiting-back, IsWaiting-within, AreApart-push, still_waiting}
 
 -- a leaf that was settled while there were tickets stays so with one ticket more
-closed_later : (parts : Parts) (t budget : ℕ) (best : Option ℤ) (box : List Slot) (leaf : LeafKind) → t < budget → IsClosed parts t budget best box leaf → IsClosed parts (t + 1) budget best box leaf
-closed_later parts t budget best box (Dead at) left closed = closed
-closed_later parts t budget best box (Void terms) left closed = closed
-closed_later parts t budget best box (Undone q terms) left closed = absurd (let spent = closed.0 in omega arith)
-closed_later parts t budget best box (Dual q terms) left closed = closed
-closed_later parts t budget best box Point left closed = closed
+closed_later : (setting : Setting) (t budget : ℕ) (best : Option ℤ) (box : List Slot) (leaf : LeafKind) → t < budget → IsClosed setting t budget best box leaf →
+    IsClosed setting (t + 1) budget best box leaf
+closed_later setting t budget best box (Dead at) left closed = closed
+closed_later setting t budget best box (Void terms) left closed = closed
+closed_later setting t budget best box (Undone q terms) left closed = absurd (let spent = closed.0 in omega arith)
+closed_later setting t budget best box (Dual q terms) left closed = closed
+closed_later setting t budget best box Point left closed = closed
 
-settled_later : (parts : Parts) (t budget : ℕ) (best bound : Option ℤ) (box : List Slot) (leaf : LeafKind) → t < budget → IsSettled parts t budget best bound box leaf → IsSettled parts (t + 1) budget best bound box leaf
-settled_later parts t budget best bound box leaf left settled = record {
+settled_later : (setting : Setting) (t budget : ℕ) (best bound : Option ℤ) (box : List Slot) (leaf : LeafKind) → t < budget →
+    IsSettled setting t budget best bound box leaf → IsSettled setting (t + 1) budget best bound box leaf
+settled_later setting t budget best bound box leaf left settled = record {
   lawful = settled.lawful;
   bounded = settled.bounded;
-  closed = closed_later parts t budget best box leaf left settled.closed;
+  closed = closed_later setting t budget best box leaf left settled.closed;
 }
 
 -- the two parts that wait in the place of a box, by ids that no box had before
@@ -48,9 +50,12 @@ pub record ArePartsOf (t : ℕ) (after : List Node) (boxes_after : List (List Sl
   pub left : (a.id ≡ 2 * t + 1) ⊎ (b.id ≡ 2 * t + 1)
   pub right : (a.id ≡ 2 * t + 2) ⊎ (b.id ≡ 2 * t + 2)
 
-module _ (parts : Parts) (n budget t : ℕ) (tree : List Node) (boxes : List (List Slot)) (front : List Pending) (p : Pending) (best bound : Option ℤ) (state : IsUnderway parts n budget t tree boxes (front ++ p ∷ []) best bound) (split : Split) (lawful : IsLawfulSplit p.bx split) (counts : SharesCount p.bx split) (a b : Pending) (two : ArePartsOf t (tree_divided tree p.id t split) (boxes_divided boxes p.bx split) a b) (left : t < budget) where
+module _ (setting : Setting) (budget t : ℕ) (tree : List Node) (boxes : List (List Slot)) (front : List Pending) (p : Pending) (best bound : Option ℤ)
+    (state : IsUnderway setting budget t tree boxes (front ++ p ∷ []) best bound) (split : Split) (lawful : IsLawfulSplit p.bx split)
+    (counts : SharesCount p.bx split) (a b : Pending) (two : ArePartsOf t (tree_divided tree p.id t split) (boxes_divided boxes p.bx split) a b)
+    (left : t < budget) where
   abbrev root : List Slot
-  root = root_box_of parts n
+  root = root_box setting.case
 
   abbrev after : List Node
   after = tree_divided tree p.id t split
@@ -59,19 +64,19 @@ module _ (parts : Parts) (n budget t : ℕ) (tree : List Node) (boxes : List (Li
   boxes_after = boxes_divided boxes p.bx split
 
   node : IsLeaf tree p.id open_leaf
-  node = (last_waits parts n budget t tree boxes front p best bound state).node
+  node = (last_waits setting budget t tree boxes front p best bound state).node
 
   box_at : IsBoxAt boxes p.id p.bx
-  box_at = (last_waits parts n budget t tree boxes front p best bound state).box
+  box_at = (last_waits setting budget t tree boxes front p best bound state).box
 
   waits : AllByRecursion (IsPending tree boxes) front
-  waits = front_waits parts n budget t tree boxes front p best bound state
+  waits = front_waits setting budget t tree boxes front p best bound state
 
   out : IsWaiting front p.id → ⊥
-  out = (front_apart parts n budget t tree boxes front p best bound state).1
+  out = (front_apart setting budget t tree boxes front p best bound state).1
 
   apart_front : AreApart front
-  apart_front = (front_apart parts n budget t tree boxes front p best bound state).0
+  apart_front = (front_apart setting budget t tree boxes front p best bound state).0
 
   count : length tree ≡ 2 * t + 1
   count = state.grown.nodes
@@ -79,7 +84,8 @@ module _ (parts : Parts) (n budget t : ℕ) (tree : List Node) (boxes : List (Li
   -- another leaf stays
   leaf_kept : (j : ℕ) (leaf : LeafKind) → j ≢ p.id → IsLeaf tree j leaf → IsLeaf after j leaf
   leaf_kept j leaf other is =
-      kept root t tree boxes state.grown p.id open_leaf node p.bx split box_at lawful counts j (let i = slice_get_within tree j _ is in let c = count in omega arith) other ∙ is
+      kept root t tree boxes state.grown p.id open_leaf node p.bx split box_at lawful counts j (let i = slice_get_within tree j _ is in let c = count in
+      omega arith) other ∙ is
 
   not_divided : (j : ℕ) (leaf : LeafKind) → IsLeaf after j leaf → j ≢ p.id
   not_divided j leaf is same =
@@ -129,32 +135,36 @@ module _ (parts : Parts) (n budget t : ℕ) (tree : List Node) (boxes : List (Li
   front_waits_on : (j : ℕ) → IsWaiting front j → IsWaiting pending_after j
   front_waits_on j there = IsWaiting-front (front ++ a ∷ []) (b ∷ []) j (IsWaiting-front front (a ∷ []) j there)
 
-  old_leaf : (j : ℕ) (leaf : LeafKind) (box : List Slot) → j ≢ p.id → IsWaiting (front ++ p ∷ []) j ⊎ IsSettled parts t budget best bound box leaf → IsWaiting pending_after j ⊎ IsSettled parts (t + 1) budget best bound box leaf
+  old_leaf : (j : ℕ) (leaf : LeafKind) (box : List Slot) → j ≢ p.id → IsWaiting (front ++ p ∷ []) j ⊎ IsSettled setting t budget best bound box leaf →
+      IsWaiting pending_after j ⊎ IsSettled setting (t + 1) budget best bound box leaf
   old_leaf j leaf box other (inl there) =
-      inl (front_waits_on j (others_wait parts n budget t tree boxes front p best bound state j other there))
-  old_leaf j leaf box other (inr settled) = inr (settled_later parts t budget best bound box leaf left settled)
+      inl (front_waits_on j (others_wait setting budget t tree boxes front p best bound state j other there))
+  old_leaf j leaf box other (inr settled) = inr (settled_later setting t budget best bound box leaf left settled)
 
-  leaves : (j : ℕ) (leaf : LeafKind) (box : List Slot) → IsLeaf after j leaf → IsBoxAt boxes_after j box → IsWaiting pending_after j ⊎ IsSettled parts (t + 1) budget best bound box leaf
+  leaves : (j : ℕ) (leaf : LeafKind) (box : List Slot) → IsLeaf after j leaf → IsBoxAt boxes_after j box → IsWaiting pending_after j ⊎
+      IsSettled setting (t + 1) budget best bound box leaf
   leaves j leaf box is at =
       elim (cases_lt j (2 * t + 1)) [
         | inl before ↦
             old_leaf j leaf box (not_divided j leaf is)
-            (state.leaves j leaf box (leaf_was j leaf before is) (box_was root t tree boxes state.grown p.id open_leaf node p.bx split box_at lawful counts j box before at))
+            (state.leaves j leaf box (leaf_was j leaf before is) (box_was root t tree boxes state.grown p.id open_leaf node p.bx split box_at lawful counts j
+            box before at))
         | inr behind ↦
             elim (cases_eq j (2 * t + 1)) [
               | inl first ↦ elim two.left [ inl one ↦ inl (first_waits j (one ∙ sym first)) | inr one ↦ inl (second_waits j (one ∙ sym first)) ]
               | inr second ↦
-                  let last : 2 * t + 2 ≡ j = let w = box_within root t tree boxes state.grown p.id open_leaf node p.bx split box_at lawful counts j box at in omega arith in
+                  let last : 2 * t + 2 ≡ j = let w = box_within root t tree boxes state.grown p.id open_leaf node p.bx split box_at lawful counts j box at in
+                  omega arith in
                   elim two.right [ inl one ↦ inl (first_waits j (one ∙ last)) | inr one ↦ inl (second_waits j (one ∙ last)) ]
             ]
       ]
 
-  kept_value : (v : ℤ) → IsFoundValue parts tree boxes (front ++ p ∷ []) v → IsFoundValue parts after boxes_after pending_after v
+  kept_value : (v : ℤ) → IsFoundValue setting tree boxes (front ++ p ∷ []) v → IsFoundValue setting after boxes_after pending_after v
   kept_value v found = record {
     id = found.id;
     box = found.box;
     leaf = found.leaf;
-    node = leaf_kept found.id found.leaf (found_elsewhere parts n budget t tree boxes front p best bound state v found) found.node;
+    node = leaf_kept found.id found.leaf (found_elsewhere setting budget t tree boxes front p best bound state v found) found.node;
     box_at = kept_box found.id found.box found.box_at;
     valued = found.valued;
     examined = examined;
@@ -174,19 +184,18 @@ module _ (parts : Parts) (n budget t : ℕ) (tree : List Node) (boxes : List (Li
                 ]
           ]
 
-  kept_found : (v : Option ℤ) → IfSome v (IsFoundValue parts tree boxes (front ++ p ∷ [])) → IfSome v (IsFoundValue parts after boxes_after pending_after)
+  kept_found : (v : Option ℤ) → IfSome v (IsFoundValue setting tree boxes (front ++ p ∷ [])) → IfSome v (IsFoundValue setting after boxes_after pending_after)
   kept_found None found = tt
   kept_found (Some v) found = kept_value v found
 
-  pub IsUnderway-divided : IsUnderway parts n budget (t + 1) (tree_divided tree p.id t split) (boxes_divided boxes p.bx split) (front ++ a ∷ b ∷ []) best bound
+  pub IsUnderway-divided : IsUnderway setting budget (t + 1) (tree_divided tree p.id t split) (boxes_divided boxes p.bx split) (front ++ a ∷ b ∷ []) best bound
   IsUnderway-divided =
-      subst (λ pending. IsUnderway parts n budget (t + 1) after boxes_after pending best bound) (append_assoc front (a ∷ []) (b ∷ []))
+      subst (λ pending. IsUnderway setting budget (t + 1) after boxes_after pending best bound) (append_assoc front (a ∷ []) (b ∷ []))
       (record {
         grown = IsGrown-divided root t tree boxes state.grown p.id open_leaf node p.bx split box_at lawful counts;
         within = let some = left in omega arith;
         waiting = waiting;
         apart = apart;
         leaves = leaves;
-        best_found = kept_found best state.best_found;
         bound_found = kept_found bound state.bound_found;
       })

@@ -14,14 +14,16 @@ use Rattle.slot_box.specs.Boxes.{points_of}
 use Rattle.slot_box.specs.Laws.{SharesCount}
 use Rattle.slot_box.specs.Splits.{IsLawfulSplit, left_of, right_of}
 use Rattle.slot_box.specs.Trees.{HasBox, root_box, left_part, right_part}
-use Rattle.dossier_check.specs.Nodes.{IsInner, IsLeaf, inner_of, inner_count, IsParentOf, AreTickets, HaveParents}
-use Rattle.box_search.specs.Growing.{IsGrown, IsBoxAt, IsDivided, open_leaf, spare_of, spare_points, tree_divided, boxes_divided}
+use Rattle.slot_box.specs.Nodes.{IsInner, IsLeaf, inner_of, inner_count, IsParentOf, AreTickets, HaveParents}
+use Rattle.box_search.specs.inside.Growing.{IsGrown, IsBoxAt, IsDivided, open_leaf, spare_of, spare_points, tree_divided, boxes_divided}
 use Rattle.box_search.proofs.ListLaws.{get-set_same, get-set_other, get-append_left, get-append_right}
 
 -- ---- boxes of nodes
 
 -- more inner nodes leave each box where it is
-pub HasBox-more : (root : List Slot) (f g : ℕ → Option Node) → ((id ticket : ℕ) (split : Split) → f id ≡ Some (Inner ticket split) → g id ≡ Some (Inner ticket split)) → (id : ℕ) (box : List Slot) → HasBox root f id box → HasBox root g id box
+pub HasBox-more : (root : List Slot) (f g : ℕ → Option Node) →
+    ((id ticket : ℕ) (split : Split) → f id ≡ Some (Inner ticket split) → g id ≡ Some (Inner ticket split)) → (id : ℕ) (box : List Slot) → HasBox root f id box
+    → HasBox root g id box
 HasBox-more root f g more id box root_box = root_box
 HasBox-more root f g more id box (left_part {id = parent} {ticket} {split} {box = whole} has node) =
     left_part (HasBox-more root f g more parent whole has) (more parent ticket split node)
@@ -29,7 +31,8 @@ HasBox-more root f g more id box (right_part {id = parent} {ticket} {split} {box
     right_part (HasBox-more root f g more parent whole has) (more parent ticket split node)
 
 -- a node has no other box than its own
-pub IsBoxAt-from_HasBox : (root : List Slot) (t : ℕ) (tree : List Node) (boxes : List (List Slot)) → IsGrown root t tree boxes → (id : ℕ) (box : List Slot) → HasBox root (slice_get tree) id box → IsBoxAt boxes id box
+pub IsBoxAt-from_HasBox : (root : List Slot) (t : ℕ) (tree : List Node) (boxes : List (List Slot)) → IsGrown root t tree boxes → (id : ℕ) (box : List Slot) →
+    HasBox root (slice_get tree) id box → IsBoxAt boxes id box
 IsBoxAt-from_HasBox root t tree boxes grown id box root_box = grown.root_box
 IsBoxAt-from_HasBox root t tree boxes grown id box (left_part {id = parent} {ticket} {split} {box = whole} has node) =
     (grown.divided parent ticket split whole node (IsBoxAt-from_HasBox root t tree boxes grown parent whole has)).left
@@ -38,7 +41,8 @@ IsBoxAt-from_HasBox root t tree boxes grown id box (right_part {id = parent} {ti
 
 -- ---- spare points
 
-pub spare-leaf : (tree : List Node) (boxes : List (List Slot)) (id : ℕ) (old leaf : LeafKind) → IsLeaf tree id old → spare_points (set tree id (Leaf leaf)) boxes ≡ spare_points tree boxes
+pub spare-leaf : (tree : List Node) (boxes : List (List Slot)) (id : ℕ) (old leaf : LeafKind) → IsLeaf tree id old →
+    spare_points (set tree id (Leaf leaf)) boxes ≡ spare_points tree boxes
 spare-leaf [] boxes id old leaf is = refl
 spare-leaf (node ∷ tree) [] zero old leaf is = refl
 spare-leaf (node ∷ tree) [] (suc id) old leaf is = refl
@@ -47,7 +51,8 @@ spare-leaf (node ∷ tree) (box ∷ boxes) zero old leaf is =
 spare-leaf (node ∷ tree) (box ∷ boxes) (suc id) old leaf is =
     ap (λ n. spare_of node box + n) (spare-leaf tree boxes id old leaf is)
 
-pub spare-inner : (tree : List Node) (boxes : List (List Slot)) (id : ℕ) (old : LeafKind) (box : List Slot) (ticket : ℕ) (split : Split) → IsLeaf tree id old → IsBoxAt boxes id box → spare_points (set tree id (Inner ticket split)) boxes + (points_of box - 1) ≡ spare_points tree boxes
+pub spare-inner : (tree : List Node) (boxes : List (List Slot)) (id : ℕ) (old : LeafKind) (box : List Slot) (ticket : ℕ) (split : Split) → IsLeaf tree id old →
+    IsBoxAt boxes id box → spare_points (set tree id (Inner ticket split)) boxes + (points_of box - 1) ≡ spare_points tree boxes
 spare-inner [] boxes id old box ticket split is at = absurd (cc)
 spare-inner (node ∷ tree) [] id old box ticket split is at = absurd (cc)
 spare-inner (node ∷ tree) (first ∷ boxes) zero old box ticket split is at =
@@ -58,7 +63,8 @@ spare-inner (node ∷ tree) (first ∷ boxes) zero old box ticket split is at =
 spare-inner (node ∷ tree) (first ∷ boxes) (suc id) old box ticket split is at =
     let rec = spare-inner tree boxes id old box ticket split is at in omega arith
 
-pub spare-append : (tree more : List Node) (boxes others : List (List Slot)) → length tree ≡ length boxes → spare_points (tree ++ more) (boxes ++ others) ≡ spare_points tree boxes + spare_points more others
+pub spare-append : (tree more : List Node) (boxes others : List (List Slot)) → length tree ≡ length boxes → spare_points (tree ++ more) (boxes ++ others)
+    ≡ spare_points tree boxes + spare_points more others
 spare-append [] more [] others same = omega arith
 spare-append [] more (box ∷ boxes) others same = absurd (omega arith)
 spare-append (node ∷ tree) more [] others same = absurd (omega arith)
@@ -79,7 +85,8 @@ inner-leaf (node ∷ tree) (suc id) old leaf is =
     let after = inner-more node (set tree id (Leaf leaf)) in
     omega arith
 
-inner-inner : (tree : List Node) (id : ℕ) (old : LeafKind) (ticket : ℕ) (split : Split) → IsLeaf tree id old → inner_count (set tree id (Inner ticket split)) ≡ inner_count tree + 1
+inner-inner : (tree : List Node) (id : ℕ) (old : LeafKind) (ticket : ℕ) (split : Split) → IsLeaf tree id old → inner_count (set tree id (Inner ticket split))
+    ≡ inner_count tree + 1
 inner-inner [] id old ticket split is = absurd (cc)
 inner-inner (node ∷ tree) zero old ticket split is =
     let same : Leaf old ≡ node = cc in
@@ -107,7 +114,10 @@ IsGrown-root root some = record {
   nodes = refl;
   each_box = refl;
   inner = refl;
-  tickets = record { below = λ id ticket split is. absurd (no_inner id ticket split is); once = λ id other ticket split another is also. absurd (no_inner id ticket split is) };
+  tickets = record {
+    below = λ id ticket split is. absurd (no_inner id ticket split is);
+    once = λ id other ticket split another is also. absurd (no_inner id ticket split is);
+  };
   parents = λ id past inside. absurd (omega arith);
   root_box = refl;
   slots = sized;
@@ -126,7 +136,8 @@ IsGrown-root root some = record {
 
 -- ---- a leaf that is replaced or divided
 
-module _ (root : List Slot) (t : ℕ) (tree : List Node) (boxes : List (List Slot)) (grown : IsGrown root t tree boxes) (id : ℕ) (old : LeafKind) (is : IsLeaf tree id old) where
+module _ (root : List Slot) (t : ℕ) (tree : List Node) (boxes : List (List Slot)) (grown : IsGrown root t tree boxes) (id : ℕ) (old : LeafKind)
+    (is : IsLeaf tree id old) where
   inside : id < length tree
   inside = slice_get_within tree id _ is
 
@@ -157,8 +168,16 @@ module _ (root : List Slot) (t : ℕ) (tree : List Node) (boxes : List (List Slo
         ]
 
     settled_parent : (j : ℕ) → (holder : ℕ) × IsParentOf tree j holder → (holder : ℕ) × IsParentOf settled j holder
-    settled_parent j (holder, parent) =
-        (holder, record { ticket = parent.ticket; split = parent.split; before = parent.before; holds = settled_inner holder parent.ticket parent.split parent.holds; child = parent.child })
+    settled_parent j (holder, parent) = (
+      holder,
+      record {
+        ticket = parent.ticket;
+        split = parent.split;
+        before = parent.before;
+        holds = settled_inner holder parent.ticket parent.split parent.holds;
+        child = parent.child;
+      },
+    )
 
     pub IsGrown-settled : IsGrown root t (set tree id (Leaf leaf)) boxes
     IsGrown-settled = record {
@@ -167,7 +186,8 @@ module _ (root : List Slot) (t : ℕ) (tree : List Node) (boxes : List (List Slo
       inner = inner-leaf tree id old leaf is ∙ grown.inner;
       tickets = record {
         below = λ j ticket split inner. grown.tickets.below j ticket split (was_inner j ticket split inner);
-        once = λ j other ticket split another inner also. grown.tickets.once j other ticket split another (was_inner j ticket split inner) (was_inner other ticket another also);
+        once = λ j other ticket split another inner also. grown.tickets.once j other ticket split another (was_inner j ticket split inner)
+            (was_inner other ticket another also);
       };
       parents = λ j past there. settled_parent j (grown.parents j past (subst (λ n. j < n) (length-set tree id (Leaf leaf)) there));
       root_box = grown.root_box;
@@ -198,7 +218,8 @@ module _ (root : List Slot) (t : ℕ) (tree : List Node) (boxes : List (List Slo
 
     pub divided_there : IsInner after id t split
     divided_there =
-        get-append_left (set tree id (Inner t split)) _ id (let n = grown.nodes in let i = inside in omega (arith, length_before)) ∙ get-set_same tree id (Inner t split) inside
+        get-append_left (set tree id (Inner t split)) _ id (let n = grown.nodes in let i = inside in omega (arith, length_before))
+        ∙ get-set_same tree id (Inner t split) inside
 
     -- what stands behind
     pub added : (j : ℕ) → 2 * t + 1 ≤ j → slice_get after j ≡ slice_get (Leaf open_leaf ∷ Leaf open_leaf ∷ []) (j - (2 * t + 1))
@@ -279,8 +300,16 @@ module _ (root : List Slot) (t : ℕ) (tree : List Node) (boxes : List (List Slo
         ]
       where
         old_parent : (holder : ℕ) × IsParentOf tree j holder → (holder : ℕ) × IsParentOf after j holder
-        old_parent (holder, parent) =
-            (holder, record { ticket = parent.ticket; split = parent.split; before = parent.before; holds = inner_after holder parent.ticket parent.split parent.holds; child = parent.child })
+        old_parent (holder, parent) = (
+          holder,
+          record {
+            ticket = parent.ticket;
+            split = parent.split;
+            before = parent.before;
+            holds = inner_after holder parent.ticket parent.split parent.holds;
+            child = parent.child;
+          },
+        )
 
     -- boxes
     pub box_kept : (j : ℕ) (other : List Slot) → IsBoxAt boxes j other → IsBoxAt boxes_after j other
@@ -292,12 +321,14 @@ module _ (root : List Slot) (t : ℕ) (tree : List Node) (boxes : List (List Slo
     pub left_there : IsBoxAt boxes_after (2 * t + 1) (left_of box split)
     left_there =
         get-append_right boxes (left_of box split ∷ right_of box split ∷ []) (2 * t + 1) (let n = grown.each_box in omega arith)
-        ∙ (let n = grown.each_box in let place : 2 * t + 1 - length boxes ≡ 0 = omega arith in ap (slice_get (left_of box split ∷ right_of box split ∷ [])) place)
+        ∙ (let n = grown.each_box in let place : 2 * t + 1 - length boxes ≡ 0 = omega arith in
+        ap (slice_get (left_of box split ∷ right_of box split ∷ [])) place)
 
     pub right_there : IsBoxAt boxes_after (2 * t + 2) (right_of box split)
     right_there =
         get-append_right boxes (left_of box split ∷ right_of box split ∷ []) (2 * t + 2) (let n = grown.each_box in omega arith)
-        ∙ (let n = grown.each_box in let place : 2 * t + 2 - length boxes ≡ 1 = omega arith in ap (slice_get (left_of box split ∷ right_of box split ∷ [])) place)
+        ∙ (let n = grown.each_box in let place : 2 * t + 2 - length boxes ≡ 1 = omega arith in
+        ap (slice_get (left_of box split ∷ right_of box split ∷ [])) place)
 
     pub box_within : (j : ℕ) (other : List Slot) → IsBoxAt boxes_after j other → j < 2 * t + 3
     box_within j other there =
@@ -316,13 +347,15 @@ module _ (root : List Slot) (t : ℕ) (tree : List Node) (boxes : List (List Slo
                     let here : IsBoxAt boxes_after (2 * t + 1) other = subst (λ k. IsBoxAt boxes_after k other) first there in
                     let both : ◌≡◌ {A = Option (List Slot)} (Some (left_of box split)) (Some other) = sym left_there ∙ here in
                     let same : left_of box split ≡ other = cc in
-                    subst (λ k. HasBox root (slice_get after) k other) (sym first) (subst (HasBox root (slice_get after) (2 * t + 1)) same (left_part whole_after divided_there))
+                    subst (λ k. HasBox root (slice_get after) k other) (sym first)
+                    (subst (HasBox root (slice_get after) (2 * t + 1)) same (left_part whole_after divided_there))
                 | inr second ↦
                     let last : j ≡ 2 * t + 2 = let n = box_within j other there in omega arith in
                     let here : IsBoxAt boxes_after (2 * t + 2) other = subst (λ k. IsBoxAt boxes_after k other) last there in
                     let both : ◌≡◌ {A = Option (List Slot)} (Some (right_of box split)) (Some other) = sym right_there ∙ here in
                     let same : right_of box split ≡ other = cc in
-                    subst (λ k. HasBox root (slice_get after) k other) (sym last) (subst (HasBox root (slice_get after) (2 * t + 2)) same (right_part whole_after divided_there))
+                    subst (λ k. HasBox root (slice_get after) k other) (sym last)
+                    (subst (HasBox root (slice_get after) (2 * t + 2)) same (right_part whole_after divided_there))
               ]
         ]
       where
@@ -349,7 +382,8 @@ module _ (root : List Slot) (t : ℕ) (tree : List Node) (boxes : List (List Slo
               ]
         ]
 
-    divided_after : (j ticket : ℕ) (other : Split) (whole : List Slot) → IsInner after j ticket other → IsBoxAt boxes_after j whole → IsDivided boxes_after ticket other whole
+    divided_after : (j ticket : ℕ) (other : Split) (whole : List Slot) → IsInner after j ticket other → IsBoxAt boxes_after j whole →
+        IsDivided boxes_after ticket other whole
     divided_after j ticket other whole inner there =
         elim (inner_before j ticket other inner) [
           | inl new ↦
@@ -366,7 +400,8 @@ module _ (root : List Slot) (t : ℕ) (tree : List Node) (boxes : List (List Slo
 
     points_after : spare_points after boxes_after + (t + 1) + 1 ≡ points_of root
     points_after =
-        let apart = spare-append (set tree id (Inner t split)) (Leaf open_leaf ∷ Leaf open_leaf ∷ []) boxes (left_of box split ∷ right_of box split ∷ []) (length_before ∙ sym grown.each_box) in
+        let apart = spare-append (set tree id (Inner t split)) (Leaf open_leaf ∷ Leaf open_leaf ∷ []) boxes (left_of box split ∷ right_of box split ∷ [])
+        (length_before ∙ sym grown.each_box) in
         let taken = spare-inner tree boxes id old box t split is at in
         let sum = counts.sum in
         let some_left = counts.some_left in
@@ -378,7 +413,8 @@ module _ (root : List Slot) (t : ℕ) (tree : List Node) (boxes : List (List Slo
     IsGrown-divided = record {
       nodes = omega (arith, length_after);
       each_box = length-append boxes (left_of box split ∷ right_of box split ∷ []) ∙ (let n = grown.each_box in omega arith);
-      inner = let apart = inner-append (set tree id (Inner t split)) (Leaf open_leaf ∷ Leaf open_leaf ∷ []) in let one = inner-inner tree id old t split is in let before = grown.inner in omega arith;
+      inner = let apart = inner-append (set tree id (Inner t split)) (Leaf open_leaf ∷ Leaf open_leaf ∷ []) in let one = inner-inner tree id old t split is in
+          let before = grown.inner in omega arith;
       tickets = tickets_after;
       parents = parents_after;
       root_box = box_kept 0 root grown.root_box;

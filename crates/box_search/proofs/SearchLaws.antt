@@ -15,15 +15,19 @@ use Rattle.slot_box.specs.Counting.{IsCountOf}
 use Rattle.slot_box.specs.Laws.{SharesCount}
 use Rattle.slot_box.specs.Splits.{IsLawfulSplit, left_of, right_of}
 use Rattle.replay_core.specs.Claim.{IsPlanOf}
-use Rattle.leaf_value.specs.declared.point.Planned.{Planned}
-use Rattle.leaf_value.specs.LeafValue.{IsPlain, leaf_value_of, point_value}
-use Rattle.leaf_value.specs.PlainValue.{plain_value_of, root_box_of}
-use Rattle.dossier_text.specs.Ranges.{IsNode}
+use Rattle.replay_core.specs.declared.planned.Planned.{Planned}
+use Rattle.slot_forms.specs.Cases.{plain, root_box}
+use Rattle.slot_forms.specs.Forms.{point_value}
+use Rattle.leaf_value.specs.Settings.{Setting, plain_setting}
+use Rattle.leaf_value.specs.LeafValue.{AreBounding, leaf_value_of}
+use Rattle.leaf_value.specs.PlainValue.{plain_value_of}
+use Rattle.slot_box.specs.Ranges.{IsNodeInRange}
 use Rattle.box_search.specs.declared.search.Pending.{Pending}
 use Rattle.box_search.specs.declared.search.Search.{Search}
-use Rattle.box_search.specs.Growing.{open_leaf, tree_divided, boxes_divided}
-use Rattle.box_search.specs.Searching.{IsSettled, IsPending, IsWaiting, IsSearch, best_margin}
-use Rattle.box_search.specs.Values.{IsAtMost}
+use Rattle.box_search.specs.inside.Growing.{open_leaf, tree_divided, boxes_divided}
+use Rattle.box_search.specs.inside.Searching.{IsSettled, IsPending, IsWaiting, IsSearch}
+use Rattle.box_search.specs.Searched.{best_margin}
+use Rattle.leaf_value.specs.LeafValue.{IsAtMost}
 use Rattle.box_search.proofs.DivideLaws.{ArePartsOf, IsUnderway-divided}
 use Rattle.box_search.proofs.GrowthLaws.{IsGrown-root, left_there, right_there, added}
 use Rattle.box_search.proofs.SettleLaws.{last_waits, IsUnderway-settled}
@@ -31,16 +35,18 @@ use Rattle.box_search.proofs.ValueLaws.{IsGreaterOf, IsAtMost-refl}
 
 -- ---- numbers of nodes
 
-numbers-set : (tree : List Node) (id : ℕ) (node : Node) → IsNode node → AllByRecursion IsNode tree → AllByRecursion IsNode (set tree id node)
+numbers-set : (tree : List Node) (id : ℕ) (node : Node) → IsNodeInRange node → AllByRecursion IsNodeInRange tree →
+    AllByRecursion IsNodeInRange (set tree id node)
 numbers-set [] id node is all = tt
 numbers-set (other ∷ tree) zero node is all = (is, all.1)
 numbers-set (other ∷ tree) (suc id) node is all = (all.0, numbers-set tree id node is all.1)
 
-numbers-divided : (tree : List Node) (id ticket : ℕ) (split : Split) → IsNode (Inner ticket split) → AllByRecursion IsNode tree → AllByRecursion IsNode (tree_divided tree id ticket split)
+numbers-divided : (tree : List Node) (id ticket : ℕ) (split : Split) → IsNodeInRange (Inner ticket split) → AllByRecursion IsNodeInRange tree →
+    AllByRecursion IsNodeInRange (tree_divided tree id ticket split)
 numbers-divided tree id ticket split is all =
     numbers-two (set tree id (Inner ticket split)) (numbers-set tree id (Inner ticket split) is all)
   where
-    numbers-two : (nodes : List Node) → AllByRecursion IsNode nodes → AllByRecursion IsNode (nodes ++ Leaf open_leaf ∷ Leaf open_leaf ∷ [])
+    numbers-two : (nodes : List Node) → AllByRecursion IsNodeInRange nodes → AllByRecursion IsNodeInRange (nodes ++ Leaf open_leaf ∷ Leaf open_leaf ∷ [])
     numbers-two [] all = ((omega arith, (omega arith, tt)), ((omega arith, (omega arith, tt)), tt))
     numbers-two (node ∷ nodes) all = (all.0, numbers-two nodes all.1)
 
@@ -49,141 +55,166 @@ numbers-divided tree id ticket split is all =
 some_points : (box : List Slot) → HasPoint box → IsCountOf (IsPoint box) (points_of box) → 0 < points_of box
 some_points box (point, is) counted = let below = counted.below point is in omega arith
 
-pub IsSearch-root : (parts : Parts) (n budget : ℕ) (p : Pending) → p ≡ record { id = 0; bx = root_box_of parts n } → HasPoint (root_box_of parts n) → IsCountOf (IsPoint (root_box_of parts n)) (points_of (root_box_of parts n)) → IsSearch parts n budget (record { tickets = 0; tree = Leaf open_leaf ∷ []; pending = p ∷ []; best = None; bound = None })
-IsSearch-root parts n budget p is point counted = subst (λ q. IsSearch parts n budget (record { tickets = 0; tree = Leaf open_leaf ∷ []; pending = q ∷ []; best = None; bound = None })) (sym is) (record {
-  boxes = root_box_of parts n ∷ [];
-  underway = record {
-    grown = IsGrown-root (root_box_of parts n) (some_points (root_box_of parts n) point counted);
-    within = omega arith;
-    waiting = (record { node = refl; box = refl }, tt);
-    apart = (λ none. none, tt);
-    leaves = leaves;
-    best_found = tt;
-    bound_found = tt;
-  };
-  plan = tt;
-  numbers = ((omega arith, (omega arith, tt)), tt);
-})
+pub IsSearch-root : (parts : Parts) (n budget : ℕ) (p : Pending) → p ≡ record { id = 0; bx = root_box (plain parts n) } → HasPoint (root_box (plain parts n)) →
+    IsCountOf (IsPoint (root_box (plain parts n))) (points_of (root_box (plain parts n))) →
+    IsSearch parts n budget (record { tickets = 0; tree = Leaf open_leaf ∷ []; pending = p ∷ []; best = None; bound = None })
+IsSearch-root parts n budget p is point counted =
+    subst (λ q. IsSearch parts n budget (record { tickets = 0; tree = Leaf open_leaf ∷ []; pending = q ∷ []; best = None; bound = None })) (sym is) (record {
+      boxes = root_box (plain parts n) ∷ [];
+      underway = record {
+        grown = IsGrown-root (root_box (plain parts n)) (some_points (root_box (plain parts n)) point counted);
+        within = omega arith;
+        waiting = (record { node = refl; box = refl }, tt);
+        apart = (λ none. none, tt);
+        leaves = leaves;
+        bound_found = tt;
+      };
+      plan = tt;
+      numbers = ((omega arith, (omega arith, tt)), tt);
+    })
   where
-    leaves : (id : ℕ) (leaf : LeafKind) (box : List Slot) → slice_get (Leaf open_leaf ∷ []) id ≡ Some (Leaf leaf) → slice_get (root_box_of parts n ∷ []) id ≡ Some box → IsWaiting (record { id = 0; bx = root_box_of parts n } ∷ []) id ⊎ IsSettled parts 0 budget None None box leaf
+    leaves : (id : ℕ) (leaf : LeafKind) (box : List Slot) → slice_get (Leaf open_leaf ∷ []) id ≡ Some (Leaf leaf) → slice_get (root_box (plain parts n) ∷ []) id
+        ≡ Some box → IsWaiting (record { id = 0; bx = root_box (plain parts n) } ∷ []) id ⊎ IsSettled (plain_setting parts n) 0 budget None None box leaf
     leaves zero leaf box is at = inl (inl refl)
     leaves (suc id) leaf box is at = absurd (cc)
 
 -- ---- a box that is settled
 
-module _ (parts : Parts) (n budget : ℕ) (search : Search) (p : Pending) (state : IsSearch parts n budget (record search { pending = search.pending ++ p ∷ [] })) where
-  waits : IsPending search.tree state.boxes p
-  waits = last_waits parts n budget search.tickets search.tree state.boxes search.pending p (best_margin search.best) search.bound state.underway
+module _ (parts : Parts) (n budget : ℕ) (search : Search) (p : Pending) (state : IsSearch parts n budget (record search { pending = search.pending ++ p ∷ [] }))
+  where
+    abbrev setting : Setting
+    setting = plain_setting parts n
 
-  settled_by : (leaf : LeafKind) (value higher : Option ℤ) (better : Option Planned) → leaf_value_of parts p.bx leaf ≡ value → IsSettled parts search.tickets budget (best_margin better) higher p.bx leaf → IsAtMost (best_margin search.best) (best_margin better) → (best_margin better ≡ best_margin search.best) ⊎ (best_margin better ≡ value) → IsGreaterOf search.bound value higher → IfSome better (λ planned. IsPlanOf parts n planned.margin planned.steps) → IsNode (Leaf leaf) → IsSearch parts n budget (record search { tree = set search.tree p.id (Leaf leaf); best = better; bound = higher })
-  settled_by leaf value higher better valued settled rise one up plan number = record {
-    boxes = state.boxes;
-    underway = IsUnderway-settled parts n budget search.tickets search.tree state.boxes search.pending p (best_margin search.best) search.bound state.underway leaf value (best_margin better) higher valued settled rise one up;
-    plan = plan;
-    numbers = numbers-set search.tree p.id (Leaf leaf) number state.numbers;
-  }
+    waits : IsPending search.tree state.boxes p
+    waits = last_waits setting budget search.tickets search.tree state.boxes search.pending p (best_margin search.best) search.bound state.underway
 
-  plain : IsPlain 1 []
-  plain = record { least = omega arith; most = omega arith; none = refl }
-
-  -- closed
-  pub IsSearch-closed : (value : ℤ) (higher : Option ℤ) → value ≡ pos (plain_value_of parts p.bx) → IsAtMost (Some value) (best_margin search.best) → IsGreaterOf search.bound (Some value) higher → IsSearch parts n budget (record search { tree = set search.tree p.id (Leaf (Dual 1 [])); bound = higher })
-  IsSearch-closed value higher is beaten up =
-      settled_by (Dual 1 []) (Some value) higher search.best (ap Some (sym is))
-      (record {
-        lawful = plain;
-        bounded = subst (λ v. IsAtMost (Some v) higher) is up.second;
-        closed = subst (λ v. IsAtMost (Some v) (best_margin search.best)) is beaten;
-      })
-      (IsAtMost-refl (best_margin search.best)) (inl refl) up state.plan (omega arith, (omega arith, tt))
-
-  -- left open
-  pub IsSearch-open : (value : ℤ) (higher : Option ℤ) → value ≡ pos (plain_value_of parts p.bx) → search.tickets ≡ budget → 2 ≤ points_of p.bx → IsGreaterOf search.bound (Some value) higher → IsSearch parts n budget (record search { tree = set search.tree p.id (Leaf open_leaf); bound = higher })
-  IsSearch-open value higher is spent several up =
-      settled_by open_leaf (Some value) higher search.best (ap Some (sym is))
-      (record { lawful = plain; bounded = subst (λ v. IsAtMost (Some v) higher) is up.second; closed = (spent, several) })
-      (IsAtMost-refl (best_margin search.best)) (inl refl) up state.plan (omega arith, (omega arith, tt))
-
-  -- replayed
-  pub IsSearch-point : (found better : Option Planned) (higher : Option ℤ) → HasOnePoint p.bx → option_map (λ planned. planned.margin) found ≡ point_value parts (only_point p.bx) → IfSome found (λ planned. IsPlanOf parts (length p.bx) planned.margin planned.steps) → IsGreaterOf search.bound (best_margin found) higher → IsGreaterOf (best_margin search.best) (best_margin found) (best_margin better) → (better ≡ search.best) ⊎ (better ≡ found) → IsSearch parts n budget (record search { tree = set search.tree p.id (Leaf Point); best = better; bound = higher })
-  IsSearch-point found better higher one valued plan up rise either =
-      settled_by Point (best_margin found) higher better (sym valued)
-      (record {
-        lawful = one;
-        bounded = subst (λ v. IsAtMost v higher) valued up.second;
-        closed = subst (λ v. IsAtMost v (best_margin better)) valued rise.second;
-      })
-      rise.first (margins either) up (plans either) tt
-    where
-      sized : length p.bx ≡ n
-      sized = state.underway.grown.slots p.id p.bx waits.box ∙ length-replicate n _
-
-      margins : (better ≡ search.best) ⊎ (better ≡ found) → (best_margin better ≡ best_margin search.best) ⊎ (best_margin better ≡ best_margin found)
-      margins (inl same) = inl (ap best_margin same)
-      margins (inr same) = inr (ap best_margin same)
-
-      plans : (better ≡ search.best) ⊎ (better ≡ found) → IfSome better (λ planned. IsPlanOf parts n planned.margin planned.steps)
-      plans (inl same) = subst (λ b. IfSome b (λ planned. IsPlanOf parts n planned.margin planned.steps)) (sym same) state.plan
-      plans (inr same) = subst (λ b. IfSome b (λ planned. IsPlanOf parts n planned.margin planned.steps)) (sym same) (subst (λ m. IfSome found (λ planned. IsPlanOf parts m planned.margin planned.steps)) sized plan)
-
-  -- divided
-  module _ (split : Split) (lawful : IsLawfulSplit p.bx split) (counts : SharesCount p.bx split) (left : search.tickets < budget) (number : IsNode (Inner search.tickets split)) where
-    abbrev t : ℕ
-    t = search.tickets
-
-    abbrev after : List Node
-    after = tree_divided search.tree p.id t split
-
-    abbrev boxes_after : List (List Slot)
-    boxes_after = boxes_divided state.boxes p.bx split
-
-    abbrev part : ℕ → List Slot → Pending
-    part id box = record { id = id; bx = box }
-
-    left_waits : IsPending after boxes_after (part (2 * t + 1) (left_of p.bx split))
-    left_waits = record {
-      node = added (root_box_of parts n) t search.tree state.boxes state.underway.grown p.id open_leaf waits.node p.bx split waits.box lawful counts (2 * t + 1) (omega arith) ∙ (let place : 2 * t + 1 - (2 * t + 1) ≡ 0 = omega arith in ap (slice_get (Leaf open_leaf ∷ Leaf open_leaf ∷ [])) place);
-      box = left_there (root_box_of parts n) t search.tree state.boxes state.underway.grown p.id open_leaf waits.node p.bx split waits.box lawful counts;
+    settled_by : (leaf : LeafKind) (value higher : Option ℤ) (better : Option Planned) → leaf_value_of setting p.bx leaf ≡ value →
+        IsSettled setting search.tickets budget (best_margin better) higher p.bx leaf → IsAtMost (best_margin search.best) (best_margin better) →
+        IsGreaterOf search.bound value higher → IfSome better (λ planned. IsPlanOf parts n planned.margin planned.plan) → IsNodeInRange (Leaf leaf) →
+        IsSearch parts n budget (record search { tree = set search.tree p.id (Leaf leaf); best = better; bound = higher })
+    settled_by leaf value higher better valued settled rise up plan number = record {
+      boxes = state.boxes;
+      underway = IsUnderway-settled setting budget search.tickets search.tree state.boxes search.pending p (best_margin search.best) search.bound state.underway
+          leaf value (best_margin better) higher valued settled rise up;
+      plan = plan;
+      numbers = numbers-set search.tree p.id (Leaf leaf) number state.numbers;
     }
 
-    right_waits : IsPending after boxes_after (part (2 * t + 2) (right_of p.bx split))
-    right_waits = record {
-      node = added (root_box_of parts n) t search.tree state.boxes state.underway.grown p.id open_leaf waits.node p.bx split waits.box lawful counts (2 * t + 2) (omega arith) ∙ (let place : 2 * t + 2 - (2 * t + 1) ≡ 1 = omega arith in ap (slice_get (Leaf open_leaf ∷ Leaf open_leaf ∷ [])) place);
-      box = right_there (root_box_of parts n) t search.tree state.boxes state.underway.grown p.id open_leaf waits.node p.bx split waits.box lawful counts;
-    }
+    bounding : AreBounding setting 1 []
+    bounding = (omega arith, omega arith, λ k d within. absurd (omega arith))
 
-    divided_by : (a b : Pending) → ArePartsOf t after boxes_after a b → IsSearch parts n budget (record { tickets = t + 1; tree = after; pending = search.pending ++ a ∷ b ∷ []; best = search.best; bound = search.bound })
-    divided_by a b two = record {
-      boxes = boxes_after;
-      underway = IsUnderway-divided parts n budget t search.tree state.boxes search.pending p (best_margin search.best) search.bound state.underway split lawful counts a b two left;
-      plan = state.plan;
-      numbers = numbers-divided search.tree p.id t split number state.numbers;
-    }
+    -- closed
+    pub IsSearch-closed : (value : ℤ) (higher : Option ℤ) → value ≡ pos (plain_value_of parts p.bx) → IsAtMost (Some value) (best_margin search.best) →
+        IsGreaterOf search.bound (Some value) higher →
+        IsSearch parts n budget (record search { tree = set search.tree p.id (Leaf (Dual 1 [])); bound = higher })
+    IsSearch-closed value higher is beaten up =
+        settled_by (Dual 1 []) (Some value) higher search.best (ap Some (sym is))
+        (record {
+          lawful = bounding;
+          bounded = subst (λ v. IsAtMost (Some v) higher) is up.second;
+          closed = subst (λ v. IsAtMost (Some v) (best_margin search.best)) is beaten;
+        })
+        (IsAtMost-refl (best_margin search.best)) up state.plan (omega arith, (omega arith, tt))
 
-    left_first : ArePartsOf t after boxes_after (part (2 * t + 1) (left_of p.bx split)) (part (2 * t + 2) (right_of p.bx split))
-    left_first = record {
-      first = left_waits;
-      second = right_waits;
-      apart = λ same. absurd (omega arith);
-      first_new = omega arith;
-      second_new = omega arith;
-      left = inl refl;
-      right = inr refl;
-    }
+    -- left open
+    pub IsSearch-open : (value : ℤ) (higher : Option ℤ) → value ≡ pos (plain_value_of parts p.bx) → search.tickets ≡ budget → 2 ≤ points_of p.bx →
+        IsGreaterOf search.bound (Some value) higher → IsSearch parts n budget (record search { tree = set search.tree p.id (Leaf open_leaf); bound = higher })
+    IsSearch-open value higher is spent several up =
+        settled_by open_leaf (Some value) higher search.best (ap Some (sym is))
+        (record { lawful = bounding; bounded = subst (λ v. IsAtMost (Some v) higher) is up.second; closed = (spent, several) })
+        (IsAtMost-refl (best_margin search.best)) up state.plan (omega arith, (omega arith, tt))
 
-    right_first : ArePartsOf t after boxes_after (part (2 * t + 2) (right_of p.bx split)) (part (2 * t + 1) (left_of p.bx split))
-    right_first = record {
-      first = right_waits;
-      second = left_waits;
-      apart = λ same. absurd (omega arith);
-      first_new = omega arith;
-      second_new = omega arith;
-      left = inr refl;
-      right = inl refl;
-    }
+    -- replayed
+    pub IsSearch-point : (found better : Option Planned) (higher : Option ℤ) → HasOnePoint p.bx → option_map (λ planned. planned.margin) found
+        ≡ point_value (plain parts (length p.bx)) (only_point p.bx) → IfSome found (λ planned. IsPlanOf parts (length p.bx) planned.margin planned.plan) →
+        IsGreaterOf search.bound (best_margin found) higher → IsGreaterOf (best_margin search.best) (best_margin found) (best_margin better) →
+        (better ≡ search.best) ⊎ (better ≡ found) →
+        IsSearch parts n budget (record search { tree = set search.tree p.id (Leaf Point); best = better; bound = higher })
+    IsSearch-point found better higher one valued plan up rise either =
+        settled_by Point (best_margin found) higher better (sym valued)
+        (record {
+          lawful = one;
+          bounded = subst (λ v. IsAtMost v higher) valued up.second;
+          closed = subst (λ v. IsAtMost v (best_margin better)) valued rise.second;
+        })
+        rise.first up (plans either) tt
+      where
+        sized : length p.bx ≡ n
+        sized = state.underway.grown.slots p.id p.bx waits.box ∙ length-replicate n _
 
-    pub IsSearch-divided : (a b : Pending) (tree : List Node) (pending : List Pending) → a ≡ record { id = 2 * search.tickets + 1; bx = left_of p.bx split } → b ≡ record { id = 2 * search.tickets + 2; bx = right_of p.bx split } → tree ≡ tree_divided search.tree p.id search.tickets split → (pending ≡ search.pending ++ a ∷ b ∷ []) ⊎ (pending ≡ search.pending ++ b ∷ a ∷ []) → IsSearch parts n budget (record { tickets = search.tickets + 1; tree = tree; pending = pending; best = search.best; bound = search.bound })
-    IsSearch-divided a b tree pending a_is b_is tree_is (inl order) =
-        rw (order, tree_is, a_is, b_is) (divided_by _ _ left_first)
-    IsSearch-divided a b tree pending a_is b_is tree_is (inr order) =
-        rw (order, tree_is, a_is, b_is) (divided_by _ _ right_first)
+        plans : (better ≡ search.best) ⊎ (better ≡ found) → IfSome better (λ planned. IsPlanOf parts n planned.margin planned.plan)
+        plans (inl same) = subst (λ b. IfSome b (λ planned. IsPlanOf parts n planned.margin planned.plan)) (sym same) state.plan
+        plans (inr same) = subst (λ b. IfSome b (λ planned. IsPlanOf parts n planned.margin planned.plan)) (sym same)
+            (subst (λ m. IfSome found (λ planned. IsPlanOf parts m planned.margin planned.plan)) sized plan)
+
+    -- divided
+    module _ (split : Split) (lawful : IsLawfulSplit p.bx split) (counts : SharesCount p.bx split) (left : search.tickets < budget)
+        (number : IsNodeInRange (Inner search.tickets split)) where
+      abbrev t : ℕ
+      t = search.tickets
+
+      abbrev after : List Node
+      after = tree_divided search.tree p.id t split
+
+      abbrev boxes_after : List (List Slot)
+      boxes_after = boxes_divided state.boxes p.bx split
+
+      abbrev part : ℕ → List Slot → Pending
+      part id box = record { id = id; bx = box }
+
+      left_waits : IsPending after boxes_after (part (2 * t + 1) (left_of p.bx split))
+      left_waits = record {
+        node = added (root_box (plain parts n)) t search.tree state.boxes state.underway.grown p.id open_leaf waits.node p.bx split waits.box lawful counts
+            (2 * t + 1) (omega arith) ∙ (let place : 2 * t + 1 - (2 * t + 1) ≡ 0 = omega arith in ap (slice_get (Leaf open_leaf ∷ Leaf open_leaf ∷ [])) place);
+        box = left_there (root_box (plain parts n)) t search.tree state.boxes state.underway.grown p.id open_leaf waits.node p.bx split waits.box lawful counts;
+      }
+
+      right_waits : IsPending after boxes_after (part (2 * t + 2) (right_of p.bx split))
+      right_waits = record {
+        node = added (root_box (plain parts n)) t search.tree state.boxes state.underway.grown p.id open_leaf waits.node p.bx split waits.box lawful counts
+            (2 * t + 2) (omega arith) ∙ (let place : 2 * t + 2 - (2 * t + 1) ≡ 1 = omega arith in ap (slice_get (Leaf open_leaf ∷ Leaf open_leaf ∷ [])) place);
+        box = right_there (root_box (plain parts n)) t search.tree state.boxes state.underway.grown p.id open_leaf waits.node p.bx split waits.box lawful
+            counts;
+      }
+
+      divided_by : (a b : Pending) → ArePartsOf t after boxes_after a b →
+          IsSearch parts n budget (record { tickets = t + 1; tree = after; pending = search.pending ++ a ∷ b ∷ []; best = search.best; bound = search.bound })
+      divided_by a b two = record {
+        boxes = boxes_after;
+        underway = IsUnderway-divided setting budget t search.tree state.boxes search.pending p (best_margin search.best) search.bound state.underway split
+            lawful
+            counts a b two left;
+        plan = state.plan;
+        numbers = numbers-divided search.tree p.id t split number state.numbers;
+      }
+
+      left_first : ArePartsOf t after boxes_after (part (2 * t + 1) (left_of p.bx split)) (part (2 * t + 2) (right_of p.bx split))
+      left_first = record {
+        first = left_waits;
+        second = right_waits;
+        apart = λ same. absurd (omega arith);
+        first_new = omega arith;
+        second_new = omega arith;
+        left = inl refl;
+        right = inr refl;
+      }
+
+      right_first : ArePartsOf t after boxes_after (part (2 * t + 2) (right_of p.bx split)) (part (2 * t + 1) (left_of p.bx split))
+      right_first = record {
+        first = right_waits;
+        second = left_waits;
+        apart = λ same. absurd (omega arith);
+        first_new = omega arith;
+        second_new = omega arith;
+        left = inr refl;
+        right = inl refl;
+      }
+
+      pub IsSearch-divided : (a b : Pending) (tree : List Node) (pending : List Pending) → a ≡ record { id = 2 * search.tickets + 1; bx = left_of p.bx split } →
+          b ≡ record { id = 2 * search.tickets + 2; bx = right_of p.bx split } → tree ≡ tree_divided search.tree p.id search.tickets split →
+          (pending ≡ search.pending ++ a ∷ b ∷ []) ⊎ (pending ≡ search.pending ++ b ∷ a ∷ []) →
+          IsSearch parts n budget (record { tickets = search.tickets + 1; tree = tree; pending = pending; best = search.best; bound = search.bound })
+      IsSearch-divided a b tree pending a_is b_is tree_is (inl order) =
+          rw (order, tree_is, a_is, b_is) (divided_by _ _ left_first)
+      IsSearch-divided a b tree pending a_is b_is tree_is (inr order) =
+          rw (order, tree_is, a_is, b_is) (divided_by _ _ right_first)

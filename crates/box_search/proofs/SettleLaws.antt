@@ -4,42 +4,45 @@ use Rattle.std.specs.Prelude.{◌⊎◌, IfSome}
 use Rattle.std.specs.List.{AllByRecursion}
 use Rattle.std.proofs.lemmas.Bool.{cases_eq}
 use Rattle.std.proofs.lemmas.Option.{slice_get_within}
-use Rattle.plant_model.specs.declared.parts.Parts.{Parts}
 use Rattle.slot_box.specs.declared.node.Leaf.{Leaf as LeafKind}
 use Rattle.slot_box.specs.declared.node.Leaf.TheVariants.{Dead, Void, Dual, Undone, Point}
 use Rattle.slot_box.specs.declared.node.Node.{Node}
 use Rattle.slot_box.specs.declared.node.Node.TheVariants.{Leaf}
 use Rattle.slot_box.specs.declared.slot.Slot.{Slot}
 use Rattle.leaf_value.specs.LeafValue.{leaf_value_of}
-use Rattle.leaf_value.specs.PlainValue.{root_box_of}
-use Rattle.dossier_check.specs.Nodes.{IsLeaf}
+use Rattle.slot_forms.specs.Cases.{root_box}
+use Rattle.leaf_value.specs.Settings.{Setting}
+use Rattle.slot_box.specs.Nodes.{IsLeaf}
 use Rattle.box_search.specs.declared.search.Pending.{Pending}
-use Rattle.box_search.specs.Growing.{IsBoxAt, open_leaf}
-use Rattle.box_search.specs.Searching.{IsClosed, IsSettled, IsPending, IsWaiting, AreApart, IsFoundValue, IsUnderway}
-use Rattle.box_search.specs.Values.{IsAtMost}
+use Rattle.box_search.specs.inside.Growing.{IsBoxAt, open_leaf}
+use Rattle.box_search.specs.inside.Searching.{IsClosed, IsSettled, IsPending, IsWaiting, AreApart, IsFoundValue, IsUnderway}
+use Rattle.leaf_value.specs.LeafValue.{IsAtMost}
 use Rattle.box_search.proofs.GrowthLaws.{IsGrown-settled}
 use Rattle.box_search.proofs.ListLaws.{get-set_same, get-set_other}
 use Rattle.box_search.proofs.ValueLaws.{IsGreaterOf, IsAtMost-trans}
 use Rattle.box_search.proofs.WaitingLaws.{All-front, IsWaiting-push, IsWaiting-front, IsWaiting-back, AreApart-front, still_waiting}
 
 -- a leaf that is settled stays so as the best margin and the bound rise
-IsClosed-more : (parts : Parts) (t budget : ℕ) (best better : Option ℤ) (box : List Slot) (leaf : LeafKind) → IsAtMost best better → IsClosed parts t budget best box leaf → IsClosed parts t budget better box leaf
-IsClosed-more parts t budget best better box (Dead at) rise closed = closed
-IsClosed-more parts t budget best better box (Void terms) rise closed = closed
-IsClosed-more parts t budget best better box (Undone q terms) rise closed = closed
-IsClosed-more parts t budget best better box (Dual q terms) rise closed =
-    IsAtMost-trans (leaf_value_of parts box (Dual q terms)) best better closed rise
-IsClosed-more parts t budget best better box Point rise closed =
-    IsAtMost-trans (leaf_value_of parts box Point) best better closed rise
+IsClosed-more : (setting : Setting) (t budget : ℕ) (best better : Option ℤ) (box : List Slot) (leaf : LeafKind) → IsAtMost best better →
+    IsClosed setting t budget best box leaf → IsClosed setting t budget better box leaf
+IsClosed-more setting t budget best better box (Dead at) rise closed = closed
+IsClosed-more setting t budget best better box (Void terms) rise closed = closed
+IsClosed-more setting t budget best better box (Undone q terms) rise closed = closed
+IsClosed-more setting t budget best better box (Dual q terms) rise closed =
+    IsAtMost-trans (leaf_value_of setting box (Dual q terms)) best better closed rise
+IsClosed-more setting t budget best better box Point rise closed =
+    IsAtMost-trans (leaf_value_of setting box Point) best better closed rise
 
-pub IsSettled-more : (parts : Parts) (t budget : ℕ) (best better bound higher : Option ℤ) (box : List Slot) (leaf : LeafKind) → IsAtMost best better → IsAtMost bound higher → IsSettled parts t budget best bound box leaf → IsSettled parts t budget better higher box leaf
-IsSettled-more parts t budget best better bound higher box leaf rise up settled = record {
+pub IsSettled-more : (setting : Setting) (t budget : ℕ) (best better bound higher : Option ℤ) (box : List Slot) (leaf : LeafKind) → IsAtMost best better →
+    IsAtMost bound higher → IsSettled setting t budget best bound box leaf → IsSettled setting t budget better higher box leaf
+IsSettled-more setting t budget best better bound higher box leaf rise up settled = record {
   lawful = settled.lawful;
-  bounded = IsAtMost-trans (leaf_value_of parts box leaf) bound higher settled.bounded up;
-  closed = IsClosed-more parts t budget best better box leaf rise settled.closed;
+  bounded = IsAtMost-trans (leaf_value_of setting box leaf) bound higher settled.bounded up;
+  closed = IsClosed-more setting t budget best better box leaf rise settled.closed;
 }
 
-module _ (parts : Parts) (n budget t : ℕ) (tree : List Node) (boxes : List (List Slot)) (front : List Pending) (p : Pending) (best bound : Option ℤ) (state : IsUnderway parts n budget t tree boxes (front ++ p ∷ []) best bound) where
+module _ (setting : Setting) (budget t : ℕ) (tree : List Node) (boxes : List (List Slot)) (front : List Pending) (p : Pending) (best bound : Option ℤ)
+    (state : IsUnderway setting budget t tree boxes (front ++ p ∷ []) best bound) where
   pub last_waits : IsPending tree boxes p
   last_waits = (All-front (IsPending tree boxes) front p state.waiting).1
 
@@ -55,10 +58,11 @@ module _ (parts : Parts) (n budget t : ℕ) (tree : List Node) (boxes : List (Li
       elim (IsWaiting-push front p j there) [ inl same ↦ absurd (other (sym same)) | inr before ↦ before ]
 
   -- a value that was found is that of another leaf
-  pub found_elsewhere : (value : ℤ) (found : IsFoundValue parts tree boxes (front ++ p ∷ []) value) → found.id ≢ p.id
+  pub found_elsewhere : (value : ℤ) (found : IsFoundValue setting tree boxes (front ++ p ∷ []) value) → found.id ≢ p.id
   found_elsewhere value found same = found.examined (IsWaiting-back front (p ∷ []) found.id (inl (sym same)))
 
-  module _ (leaf : LeafKind) (value better higher : Option ℤ) (valued : leaf_value_of parts p.bx leaf ≡ value) (settled : IsSettled parts t budget better higher p.bx leaf) (rise : IsAtMost best better) (one : (better ≡ best) ⊎ (better ≡ value)) (up : IsGreaterOf bound value higher) where
+  module _ (leaf : LeafKind) (value better higher : Option ℤ) (valued : leaf_value_of setting p.bx leaf ≡ value)
+      (settled : IsSettled setting t budget better higher p.bx leaf) (rise : IsAtMost best better) (up : IsGreaterOf bound value higher) where
     abbrev after : List Node
     after = set tree p.id (Leaf leaf)
 
@@ -71,12 +75,14 @@ module _ (parts : Parts) (n budget t : ℕ) (tree : List Node) (boxes : List (Li
     was_elsewhere : (j : ℕ) (other : LeafKind) → j ≢ p.id → IsLeaf after j other → IsLeaf tree j other
     was_elsewhere j other apart is = sym (get-set_other tree p.id j (Leaf leaf) apart) ∙ is
 
-    old_leaf : (j : ℕ) (other : LeafKind) (box : List Slot) → j ≢ p.id → IsWaiting (front ++ p ∷ []) j ⊎ IsSettled parts t budget best bound box other → IsWaiting front j ⊎ IsSettled parts t budget better higher box other
+    old_leaf : (j : ℕ) (other : LeafKind) (box : List Slot) → j ≢ p.id → IsWaiting (front ++ p ∷ []) j ⊎ IsSettled setting t budget best bound box other →
+        IsWaiting front j ⊎ IsSettled setting t budget better higher box other
     old_leaf j other box apart (inl waits) = inl (others_wait j apart waits)
     old_leaf j other box apart (inr was) =
-        inr (IsSettled-more parts t budget best better bound higher box other rise up.first was)
+        inr (IsSettled-more setting t budget best better bound higher box other rise up.first was)
 
-    leaves : (j : ℕ) (other : LeafKind) (box : List Slot) → IsLeaf after j other → IsBoxAt boxes j box → IsWaiting front j ⊎ IsSettled parts t budget better higher box other
+    leaves : (j : ℕ) (other : LeafKind) (box : List Slot) → IsLeaf after j other → IsBoxAt boxes j box → IsWaiting front j ⊎
+        IsSettled setting t budget better higher box other
     leaves j other box is at =
         elim (cases_eq j p.id) [
           | inl same ↦
@@ -86,11 +92,12 @@ module _ (parts : Parts) (n budget t : ℕ) (tree : List Node) (boxes : List (Li
               let at_id : IsBoxAt boxes p.id box = subst (λ k. IsBoxAt boxes k box) same at in
               let both_boxes : ◌≡◌ {A = Option (List Slot)} (Some p.bx) (Some box) = sym last_waits.box ∙ at_id in
               let same_box : p.bx ≡ box = cc in
-              inr (subst (λ b. IsSettled parts t budget better higher b other) same_box (subst (IsSettled parts t budget better higher p.bx) same_leaf settled))
+              inr (subst (λ b. IsSettled setting t budget better higher b other) same_box
+              (subst (IsSettled setting t budget better higher p.bx) same_leaf settled))
           | inr apart ↦ old_leaf j other box apart (state.leaves j other box (was_elsewhere j other apart is) at)
         ]
 
-    kept_value : (v : ℤ) → IsFoundValue parts tree boxes (front ++ p ∷ []) v → IsFoundValue parts after boxes front v
+    kept_value : (v : ℤ) → IsFoundValue setting tree boxes (front ++ p ∷ []) v → IsFoundValue setting after boxes front v
     kept_value v found = record {
       id = found.id;
       box = found.box;
@@ -101,11 +108,11 @@ module _ (parts : Parts) (n budget t : ℕ) (tree : List Node) (boxes : List (Li
       examined = λ waits. found.examined (IsWaiting-front front (p ∷ []) found.id waits);
     }
 
-    old_found : (v : Option ℤ) → IfSome v (IsFoundValue parts tree boxes (front ++ p ∷ [])) → IfSome v (IsFoundValue parts after boxes front)
+    old_found : (v : Option ℤ) → IfSome v (IsFoundValue setting tree boxes (front ++ p ∷ [])) → IfSome v (IsFoundValue setting after boxes front)
     old_found None found = tt
     old_found (Some v) found = kept_value v found
 
-    new_found : (v : Option ℤ) → value ≡ v → IfSome v (IsFoundValue parts after boxes front)
+    new_found : (v : Option ℤ) → value ≡ v → IfSome v (IsFoundValue setting after boxes front)
     new_found None is = tt
     new_found (Some v) is = record {
       id = p.id;
@@ -118,17 +125,17 @@ module _ (parts : Parts) (n budget t : ℕ) (tree : List Node) (boxes : List (Li
     }
 
     -- a number that was found, or the value of the new leaf
-    found_either : (old new : Option ℤ) → IfSome old (IsFoundValue parts tree boxes (front ++ p ∷ [])) → (new ≡ old) ⊎ (new ≡ value) → IfSome new (IsFoundValue parts after boxes front)
-    found_either old new found (inl same) = subst (λ v. IfSome v (IsFoundValue parts after boxes front)) (sym same) (old_found old found)
+    found_either : (old new : Option ℤ) → IfSome old (IsFoundValue setting tree boxes (front ++ p ∷ [])) → (new ≡ old) ⊎ (new ≡ value) →
+        IfSome new (IsFoundValue setting after boxes front)
+    found_either old new found (inl same) = subst (λ v. IfSome v (IsFoundValue setting after boxes front)) (sym same) (old_found old found)
     found_either old new found (inr same) = new_found new (sym same)
 
-    pub IsUnderway-settled : IsUnderway parts n budget t (set tree p.id (Leaf leaf)) boxes front better higher
+    pub IsUnderway-settled : IsUnderway setting budget t (set tree p.id (Leaf leaf)) boxes front better higher
     IsUnderway-settled = record {
-      grown = IsGrown-settled (root_box_of parts n) t tree boxes state.grown p.id open_leaf last_waits.node leaf;
+      grown = IsGrown-settled (root_box setting.case) t tree boxes state.grown p.id open_leaf last_waits.node leaf;
       within = state.within;
       waiting = still_waiting tree after boxes boxes p.id elsewhere (λ j box at. at) front front_waits front_apart.1;
       apart = front_apart.0;
       leaves = leaves;
-      best_found = found_either best better state.best_found one;
       bound_found = found_either bound higher state.bound_found up.either;
     }

@@ -4,7 +4,7 @@ use Rattle.std.specs.Prelude.{◌⊎◌, int_lt}
 use Rattle.std.proofs.lemmas.Bool.{cases_Bool, cond-true, cond-false}
 use Rattle.std.proofs.lemmas.Int.{ints}
 use Rattle.leaf_value.specs.LeafValue.{greater}
-use Rattle.box_search.specs.Values.{IsAtMost}
+use Rattle.leaf_value.specs.LeafValue.{IsAtMost}
 
 pub IsAtMost-trans : (a b c : Option ℤ) → IsAtMost a b → IsAtMost b c → IsAtMost a c
 IsAtMost-trans None b c first second = tt

@@ -6,10 +6,10 @@ use Rattle.std.proofs.lemmas.Option.{slice_get_within}
 use Rattle.slot_box.specs.declared.node.Leaf.{Leaf as LeafKind}
 use Rattle.slot_box.specs.declared.node.Node.{Node}
 use Rattle.slot_box.specs.declared.slot.Slot.{Slot}
-use Rattle.dossier_check.specs.Nodes.{IsLeaf}
+use Rattle.slot_box.specs.Nodes.{IsLeaf}
 use Rattle.box_search.specs.declared.search.Pending.{Pending}
-use Rattle.box_search.specs.Growing.{IsBoxAt, open_leaf}
-use Rattle.box_search.specs.Searching.{IsPending, IsWaiting, AreApart}
+use Rattle.box_search.specs.inside.Growing.{IsBoxAt, open_leaf}
+use Rattle.box_search.specs.inside.Searching.{IsPending, IsWaiting, AreApart}
 
 -- ---- lists with an item more at the end
 
@@ -59,7 +59,8 @@ AreApart-push (q ∷ pending) p apart out = (first, AreApart-push pending p apar
 -- ---- boxes that still wait when a tree has changed
 
 -- what waits is a node of the tree
-pub IsWaiting-within : (tree : List Node) (boxes : List (List Slot)) (pending : List Pending) (id : ℕ) → AllByRecursion (IsPending tree boxes) pending → IsWaiting pending id → id < length tree
+pub IsWaiting-within : (tree : List Node) (boxes : List (List Slot)) (pending : List Pending) (id : ℕ) → AllByRecursion (IsPending tree boxes) pending →
+    IsWaiting pending id → id < length tree
 IsWaiting-within tree boxes [] id all none = absurd none
 IsWaiting-within tree boxes (q ∷ pending) id all (inl same) =
     subst (λ i. i < length tree) same (slice_get_within tree q.id _ all.0.node)
@@ -67,7 +68,10 @@ IsWaiting-within tree boxes (q ∷ pending) id all (inr later) =
     IsWaiting-within tree boxes pending id all.1 later
 
 -- where one node changes that does not wait, and no box changes, the others wait as before
-pub still_waiting : (tree after : List Node) (boxes boxes_after : List (List Slot)) (id : ℕ) → ((j : ℕ) (leaf : LeafKind) → j ≢ id → IsLeaf tree j leaf → IsLeaf after j leaf) → ((j : ℕ) (box : List Slot) → IsBoxAt boxes j box → IsBoxAt boxes_after j box) → (pending : List Pending) → AllByRecursion (IsPending tree boxes) pending → (IsWaiting pending id → ⊥) → AllByRecursion (IsPending after boxes_after) pending
+pub still_waiting : (tree after : List Node) (boxes boxes_after : List (List Slot)) (id : ℕ) →
+    ((j : ℕ) (leaf : LeafKind) → j ≢ id → IsLeaf tree j leaf → IsLeaf after j leaf) →
+    ((j : ℕ) (box : List Slot) → IsBoxAt boxes j box → IsBoxAt boxes_after j box) → (pending : List Pending) → AllByRecursion (IsPending tree boxes) pending →
+    (IsWaiting pending id → ⊥) → AllByRecursion (IsPending after boxes_after) pending
 still_waiting tree after boxes boxes_after id leaves kept [] all out = tt
 still_waiting tree after boxes boxes_after id leaves kept (q ∷ pending) all out = (
   record {

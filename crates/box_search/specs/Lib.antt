@@ -1,4 +1,2 @@
-pub mod Values
-pub mod Growing
-pub mod Searching
 pub mod Searched
+pub mod inside

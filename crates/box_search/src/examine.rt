@@ -1,20 +1,24 @@
-ghost use Rattle.std.specs.Prelude.{◌≡◌, ◌⊎◌, ◌+◌, ◌-◌, ◌*◌, ◌<◌, ◌≤◌, pos, ⊤, Some, [], ◌∷◌, ◌++◌, length, slice_set, OnOk, MatchBool};
+ghost use Rattle.std.specs.Prelude.{◌≡◌, ◌⊎◌, ◌+◌, ◌-◌, ◌*◌, ◌<◌, ◌≤◌, ◌↔◌, pos, Some, [], ◌∷◌, ◌++◌, length, slice_set, IsTrue, OnOk};
+ghost use Rattle.limits.specs.declared.TheConstants.{MOST_NODES};
 ghost use Rattle.slot_box.specs.declared.node.Node.TheVariants as nodes;
 ghost use Rattle.slot_box.specs.Boxes.{HasOnePoint, points_of};
 ghost use Rattle.slot_box.specs.Splits.{IsLawfulSplit};
-ghost use Rattle.dossier_text.specs.Ranges.{IsNode};
+ghost use Rattle.slot_box.specs.Ranges.{IsNodeInRange};
 ghost use Rattle.leaf_value.specs.LeafValue.{greater};
 ghost use Rattle.leaf_value.specs.PlainValue.{plain_value_of};
-ghost use Rattle.box_search.specs.Growing.{open_leaf, tree_divided};
-ghost use Rattle.box_search.specs.Searching.{IsSearch, best_margin};
-ghost use Rattle.box_search.specs.Values.{IsAtMost};
+ghost use Rattle.box_search.specs.inside.Growing.{open_leaf, tree_divided};
+ghost use Rattle.box_search.specs.inside.Searching.{IsSearch};
+ghost use Rattle.box_search.specs.Searched.{best_margin};
+ghost use Rattle.leaf_value.specs.LeafValue.{IsAtMost};
 
 use crate::search::{Pending, Search, open_leaf};
 use item_lists::Items;
-use leaf_value::{Planned, greater, plain_value, point_value};
+use leaf_value::{greater, plain_value};
 use outer_edge::Gate;
 use plant_model::Plant;
-use slot_box::{Leaf, Node, NodeList, SlotBox, Split, SplitKind, split_laws};
+use replay_core::Planned;
+use slot_box::{Leaf, Node, NodeList, Split, SplitKind, split_laws};
+use slot_forms::point_value;
 use std::alloc::{AllocError, Global};
 
 /// The margin of a plan, if there is one.
@@ -29,7 +33,7 @@ fn margin(best: &Option<Planned>) -> Option<i64>
 
 /// Whether the value is at most the best margin so far.
 fn is_beaten(value: i64, best: Option<i64>) -> bool
-    ensures { MatchBool result (IsAtMost (Some value) best) ⊤ }
+    ensures { IsTrue result ↔ IsAtMost (Some value) best }
 {
     match best {
         Some(margin) => value <= margin,
@@ -53,7 +57,8 @@ fn better(best: Option<Planned>, found: Option<Planned>) -> Option<Planned>
 fn settle(search: &mut Search, id: u32, leaf: Leaf, value: Option<i64>)
     requires { id < length search.old.tree }
     ensures bound { search.new.bound ≡ greater search.old.bound value }
-    ensures rest { search.new ≡ record search.old { tree = slice_set search.old.tree id (nodes.Leaf leaf); bound = search.new.bound } }
+    ensures rest { search.new
+        ≡ record search.old { tree = slice_set search.old.tree id (nodes.Leaf leaf); bound = search.new.bound } }
 {
     set_node(search.tree.as_mut_slice(), id, Node::Leaf(leaf));
     search.bound = greater(search.bound, value);
@@ -77,7 +82,8 @@ fn close(
     pending: Pending,
     value: i64,
 )
-    requires state { IsSearch plant.now slots budget (record search.old { pending = search.old.pending ++ pending ∷ [] }) }
+    requires state { IsSearch plant.now slots budget
+        (record search.old { pending = search.old.pending ++ pending ∷ [] }) }
     requires value { value ≡ pos (plain_value_of plant.now pending.bx) }
     requires beaten { IsAtMost (Some value) (best_margin search.old.best) }
     ensures state { IsSearch plant.now slots budget search.new }
@@ -101,7 +107,8 @@ fn leave_open(
     pending: Pending,
     value: i64,
 )
-    requires state { IsSearch plant.now slots budget (record search.old { pending = search.old.pending ++ pending ∷ [] }) }
+    requires state { IsSearch plant.now slots budget
+        (record search.old { pending = search.old.pending ++ pending ∷ [] }) }
     requires value { value ≡ pos (plain_value_of plant.now pending.bx) }
     requires spent { search.old.tickets ≡ budget }
     requires several { 2 ≤ points_of pending.bx }
@@ -121,7 +128,8 @@ fn try_point(
     search: &mut Search,
     pending: Pending,
 ) -> Result<(), AllocError>
-    requires state { IsSearch plant.now slots budget (record search.old { pending = search.old.pending ++ pending ∷ [] }) }
+    requires state { IsSearch plant.now slots budget
+        (record search.old { pending = search.old.pending ++ pending ∷ [] }) }
     requires one { HasOnePoint pending.bx }
     ensures state { OnOk result (IsSearch plant.now slots budget search.new) }
     ensures tickets { search.new.tickets ≡ search.old.tickets }
@@ -136,7 +144,7 @@ fn try_point(
 /// The node of a box that is divided for the ticket.
 fn inner_node(ticket: u32, split: Split) -> Node
     ensures value { result ≡ nodes.Inner ticket split }
-    ensures numbers { IsNode result }
+    ensures numbers { IsNodeInRange result }
 {
     Node::Inner { ticket, split }
 }
@@ -151,7 +159,7 @@ fn divide_leaf(
 ) -> Result<(), AllocError>
     requires { id < length tree.old }
     ensures tree { OnOk result (tree.new ≡ tree_divided tree.old id ticket split) }
-    ensures numbers { OnOk result (IsNode (nodes.Inner ticket split)) }
+    ensures numbers { OnOk result (IsNodeInRange (nodes.Inner ticket split)) }
 {
     set_node(tree.as_mut_slice(), id, inner_node(ticket, split));
     tree.push(Node::Leaf(open_leaf(alloc)))
@@ -168,7 +176,8 @@ fn push_parts(
     left: Pending,
     right: Pending,
 ) -> Result<(), AllocError>
-    ensures { OnOk result ((pending.new ≡ pending.old ++ left ∷ right ∷ []) ⊎ (pending.new ≡ pending.old ++ right ∷ left ∷ [])) }
+    ensures { OnOk result ((pending.new ≡ pending.old ++ left ∷ right ∷ []) ⊎
+        (pending.new ≡ pending.old ++ right ∷ left ∷ [])) }
 {
     let (last, next) = match kind {
         SplitKind::Volume(_) => (left, right),
@@ -190,8 +199,9 @@ fn divide<G: Gate>(
     pending: Pending,
     split: Split,
 ) -> Result<(), AllocError>
-    requires state { IsSearch plant.now slots budget (record search.old { pending = search.old.pending ++ pending ∷ [] }) }
-    requires most_nodes { budget ≤ 65535 }
+    requires state { IsSearch plant.now slots budget
+        (record search.old { pending = search.old.pending ++ pending ∷ [] }) }
+    requires most_nodes { budget ≤ MOST_NODES }
     requires left { search.old.tickets < budget }
     requires lawful { IsLawfulSplit pending.bx split }
     ensures state { OnOk result (IsSearch plant.now slots budget search.new) }
@@ -201,7 +211,7 @@ fn divide<G: Gate>(
     split_laws();
     let ticket = search.tickets;
     gate.ticket(0, ticket);
-    let (left, right) = pending.bx.split(alloc, split).map_err(|_| AllocError)?;
+    let (left, right) = pending.bx.divide(alloc, split)?;
     divide_leaf(alloc, &mut search.tree, pending.id, ticket, split)?;
     let left = Pending {
         id: 2 * ticket + 1,
@@ -226,10 +236,12 @@ pub(crate) fn examine<G: Gate>(
     search: &mut Search,
     pending: Pending,
 ) -> Result<(), AllocError>
-    requires state { IsSearch plant.now slots budget (record search.old { pending = search.old.pending ++ pending ∷ [] }) }
-    requires most_nodes { budget ≤ 65535 }
+    requires state { IsSearch plant.now slots budget
+        (record search.old { pending = search.old.pending ++ pending ∷ [] }) }
+    requires most_nodes { budget ≤ MOST_NODES }
     ensures state { OnOk result (IsSearch plant.now slots budget search.new) }
-    ensures less { OnOk result (2 * (budget - search.new.tickets) + length search.new.pending < 2 * (budget - search.old.tickets) + length search.old.pending + 1) }
+    ensures less { OnOk result (2 * (budget - search.new.tickets) + length search.new.pending
+        < 2 * (budget - search.old.tickets) + length search.old.pending + 1) }
 {
     let value = plain_value(plant, &pending.bx) as i64;
     if is_beaten(value, margin(&search.best)) {

@@ -1,14 +1,16 @@
 ghost use Rattle.std.specs.Prelude.{◌≡◌, ◌≤◌, IfOk};
-ghost use Rattle.box_search.specs.Growing.{open_leaf};
-ghost use Rattle.box_search.specs.Searching.{IsSearch};
+ghost use Rattle.limits.specs.declared.TheConstants.{MOST_NODES, MOST_SLOTS};
+ghost use Rattle.box_search.specs.inside.Growing.{open_leaf};
+ghost use Rattle.box_search.specs.inside.Searching.{IsSearch};
 ghost use Rattle.box_search.specs.Searched.{IsFound};
 
 use crate::examine::examine;
 use item_lists::Items;
-use leaf_value::Planned;
 use outer_edge::Gate;
 use plant_model::Plant;
+use replay_core::Planned;
 use slot_box::{Leaf, Node, NodeList, SlotBox};
+use slot_forms::root_box;
 use std::alloc::{AllocError, Global};
 
 /// A box that waits to be examined, with the id of its node.
@@ -57,16 +59,10 @@ pub(crate) fn open_leaf(alloc: Global) -> Leaf
 /// The search whose one node is the root, which waits.
 fn begin(alloc: Global, plant: &Plant, slots: u32, budget: u32) -> Result<Search, AllocError>
     requires some_slots { 1 ≤ slots }
-    requires most_slots { slots ≤ 40 }
+    requires most_slots { slots ≤ MOST_SLOTS }
     ensures { IfOk result (λ search. IsSearch plant.now slots budget search) }
 {
-    let bx = SlotBox::root(
-        alloc,
-        slots,
-        plant.op_count(),
-        plant.greatest_volume(),
-        plant.horizon(),
-    )?;
+    let bx = root_box(alloc, plant, slots)?;
     // each box has a point
     let _ = bx.points();
     let mut pending = Items::new(alloc);
@@ -93,8 +89,8 @@ pub fn search_boxes<G: Gate>(
     gate: &G,
 ) -> Result<Found, AllocError>
     requires some_slots { 1 ≤ slots }
-    requires most_slots { slots ≤ 40 }
-    requires most_nodes { budget ≤ 65535 }
+    requires most_slots { slots ≤ MOST_SLOTS }
+    requires most_nodes { budget ≤ MOST_NODES }
     ensures { IfOk result (λ found. IsFound plant.now slots budget found) }
 {
     let mut search = begin(alloc, plant, slots, budget)?;

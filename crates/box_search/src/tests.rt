@@ -38,7 +38,7 @@ fn finds_the_plan_of_the_greatest_margin(rt: HostRuntime) -> Result<(), Fail> {
         end: 2,
         volume: 4,
     };
-    assert_eq!(rt; best.steps.as_slice(), [whole_charge].as_slice());
+    assert_eq!(rt; best.plan.as_slice(), [whole_charge].as_slice());
     Ok(())
 }
 

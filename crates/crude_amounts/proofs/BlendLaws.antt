@@ -27,7 +27,8 @@ lack_of-all total volume some = (let all = ap (λ (n : ℕ). n * total) (share_o
 
 -- what is drawn of a crude is its exact share, but for what the shares up to it and before it lack
 lack_of-step : (total volume reached amount : ℕ) → 0 < total →
-    total * (share_of total volume (reached + amount) - share_of total volume reached) + lack_of total volume (reached + amount) ≡ volume * amount + lack_of total volume reached
+    total * (share_of total volume (reached + amount) - share_of total volume reached) + lack_of total volume (reached + amount)
+    ≡ volume * amount + lack_of total volume reached
 unfolding lack_of
 lack_of-step total volume reached amount some =
     let before = share_of total volume reached in
@@ -56,12 +57,15 @@ times_low (negsuc k) n most few = (let up : suc k * n ≤ suc k * most = mul-le-
 -- last what the share up to the last one lacks
 base_of : ℕ → ℕ → ℕ → List ℕ → ℤ → List ℤ → ℤ
 base_of total volume reached amounts weight weights =
-    ((pos volume *ℤ weighted_of amounts (weight ∷ weights)) +ℤ (weight *ℤ pos (lack_of total volume reached))) -ℤ (last_of weight weights *ℤ pos (lack_of total volume (reached + sum amounts)))
+    ((pos volume *ℤ weighted_of amounts (weight ∷ weights)) +ℤ (weight *ℤ pos (lack_of total volume reached))) -ℤ
+    (last_of weight weights *ℤ pos (lack_of total volume (reached + sum amounts)))
 
 -- the weighted draw, times the total, lies as near to that as the weights vary
 record LiesNear (total volume reached : ℕ) (amounts : List ℕ) (weight : ℤ) (weights : List ℤ) : Type 0 where
-  low : (base_of total volume reached amounts weight weights -ℤ pos (total * variation_of (weight ∷ weights))) ≤ℤ (pos total *ℤ weighted_of (draw_from total volume reached amounts) (weight ∷ weights))
-  high : (pos total *ℤ weighted_of (draw_from total volume reached amounts) (weight ∷ weights)) ≤ℤ (base_of total volume reached amounts weight weights +ℤ pos (total * variation_of (weight ∷ weights)))
+  low : (base_of total volume reached amounts weight weights -ℤ pos (total * variation_of (weight ∷ weights))) ≤ℤ
+      (pos total *ℤ weighted_of (draw_from total volume reached amounts) (weight ∷ weights))
+  high : (pos total *ℤ weighted_of (draw_from total volume reached amounts) (weight ∷ weights)) ≤ℤ (base_of total volume reached amounts weight weights
+      +ℤ pos (total * variation_of (weight ∷ weights)))
 
 -- one crude: its weight times what is drawn of it
 weighed-step : (weight : ℤ) (total drawn lack_after volume amount lack : ℕ) → total * drawn + lack_after ≡ volume * amount + lack →
@@ -75,10 +79,12 @@ weighed-step (negsuc k) total drawn lack_after volume amount lack step =
     let amount_is : (pos volume *ℤ (negsuc k *ℤ pos amount)) ≡ neg_ℤ (pos (volume * (suc k * amount))) = product-negative (pos volume) (pos (suc k * amount)) in
     omega (arith, ints)
 
-near : (total volume reached amount : ℕ) (amounts : List ℕ) (weight : ℤ) (weights : List ℤ) → 0 < total → length weights ≡ length amounts → LiesNear total volume reached (amount ∷ amounts) weight weights
+near : (total volume reached amount : ℕ) (amounts : List ℕ) (weight : ℤ) (weights : List ℤ) → 0 < total → length weights ≡ length amounts →
+    LiesNear total volume reached (amount ∷ amounts) weight weights
 unfolding base_of last_of
 near total volume reached amount [] weight [] some same =
-    let step = weighed-step weight total (share_of total volume (reached + amount) - share_of total volume reached) (lack_of total volume (reached + amount)) volume amount (lack_of total volume reached) (lack_of-step total volume reached amount some) in
+    let step = weighed-step weight total (share_of total volume (reached + amount) - share_of total volume reached) (lack_of total volume (reached + amount))
+    volume amount (lack_of total volume reached) (lack_of-step total volume reached amount some) in
     let same_end : reached + sum (amount ∷ []) ≡ reached + amount = omega (arith, sum-cons amount []) in
     let end = ap (λ (n : ℕ). weight *ℤ pos (lack_of total volume n)) same_end in
     let drawn = product-sum (pos total) (weight *ℤ pos (share_of total volume (reached + amount) - share_of total volume reached)) (pos 0) in
@@ -88,7 +94,8 @@ near total volume reached amount [] weight (next ∷ weights) some same = absurd
 near total volume reached amount (other ∷ amounts) weight [] some same = absurd (omega arith)
 near total volume reached amount (other ∷ amounts) weight (next ∷ weights) some same =
     let after = lack_of total volume (reached + amount) in
-    let step = weighed-step weight total (share_of total volume (reached + amount) - share_of total volume reached) after volume amount (lack_of total volume reached) (lack_of-step total volume reached amount some) in
+    let step = weighed-step weight total (share_of total volume (reached + amount) - share_of total volume reached) after volume amount
+    (lack_of total volume reached) (lack_of-step total volume reached amount some) in
     let later = near total volume (reached + amount) other amounts next weights some (omega arith) in
     let turn_low = times_low (next -ℤ weight) after total (lack_of-below total volume (reached + amount) some) in
     let turn_high = times_high (next -ℤ weight) after total (lack_of-below total volume (reached + amount) some) in
@@ -97,7 +104,8 @@ near total volume reached amount (other ∷ amounts) weight (next ∷ weights) s
     let end = ap (λ (n : ℕ). last_of next weights *ℤ pos (lack_of total volume n)) same_end in
     let low = later.low in
     let high = later.high in
-    let drawn = product-sum (pos total) (weight *ℤ pos (share_of total volume (reached + amount) - share_of total volume reached)) (weighted_of (draw_from total volume (reached + amount) (other ∷ amounts)) (next ∷ weights)) in
+    let drawn = product-sum (pos total) (weight *ℤ pos (share_of total volume (reached + amount) - share_of total volume reached))
+    (weighted_of (draw_from total volume (reached + amount) (other ∷ amounts)) (next ∷ weights)) in
     let held = product-sum (pos volume) (weight *ℤ pos amount) (weighted_of (other ∷ amounts) (next ∷ weights)) in
     record { low = omega (arith, ints); high = omega (arith, ints) }
 
@@ -118,5 +126,6 @@ draw_of_is_nearly_shared (amount ∷ amounts) volume some (weight ∷ weights) s
     let last = ap (λ (n : ℕ). last_of weight weights *ℤ pos n) (ap (lack_of total volume) none ∙ lack_of-all total volume some) in
     let low = close.low in
     let high = close.high in
-    abs-within ((pos total *ℤ weighted_of (draw_from total volume 0 (amount ∷ amounts)) (weight ∷ weights)) -ℤ (pos volume *ℤ weighted_of (amount ∷ amounts) (weight ∷ weights))) (total * variation_of (weight ∷ weights))
+    abs-within ((pos total *ℤ weighted_of (draw_from total volume 0 (amount ∷ amounts)) (weight ∷ weights)) -ℤ
+    (pos volume *ℤ weighted_of (amount ∷ amounts) (weight ∷ weights))) (total * variation_of (weight ∷ weights))
     (omega (arith, ints)) (omega (arith, ints))

@@ -35,10 +35,12 @@ take-set_within (suc n) (y ∷ xs) zero x within = refl
 take-set_within (suc n) (y ∷ xs) (suc i) x within = ap (λ rest. y ∷ rest) (take-set_within n xs i x (omega arith))
 
 -- one amount is written
-pub amounts_in-set : (count : ℕ) (cells : List ℕ) (c amount : ℕ) → c < count → amounts_in (cells_with count (set cells c amount)) ≡ set (amounts_in (cells_with count cells)) c amount
+pub amounts_in-set : (count : ℕ) (cells : List ℕ) (c amount : ℕ) → c < count → amounts_in (cells_with count (set cells c amount))
+    ≡ set (amounts_in (cells_with count cells)) c amount
 amounts_in-set count cells c amount within = take-set_within count cells c amount within
 
-pub set_are_cells : (count : ℕ) (cells : List ℕ) (c amount : ℕ) → AreCells (cells_with count cells) → c < count → sum (set (amounts_in (cells_with count cells)) c amount) ≤ 2 ^ 40 → AreCells (cells_with count (set cells c amount))
+pub set_are_cells : (count : ℕ) (cells : List ℕ) (c amount : ℕ) → AreCells (cells_with count cells) → c < count →
+    sum (set (amounts_in (cells_with count cells)) c amount) ≤ 2 ^ 40 → AreCells (cells_with count (set cells c amount))
 set_are_cells count cells c amount are within few = record {
   cells = length-set cells c amount ∙ are.cells;
   some = are.some;
@@ -51,9 +53,11 @@ set_are_cells count cells c amount are within few = record {
 pub amounts_in-front : (count : ℕ) (cells front : List ℕ) → length front ≡ count → amounts_in (cells_with count (front ++ drop count cells)) ≡ front
 amounts_in-front count cells front whole = take_at front (drop count cells) count whole
 
-pub front_are_cells : (count : ℕ) (cells front : List ℕ) → AreCells (cells_with count cells) → length front ≡ count → sum front ≤ 2 ^ 40 → AreCells (cells_with count (front ++ drop count cells))
+pub front_are_cells : (count : ℕ) (cells front : List ℕ) → AreCells (cells_with count cells) → length front ≡ count → sum front ≤ 2 ^ 40 →
+    AreCells (cells_with count (front ++ drop count cells))
 front_are_cells count cells front are whole few = record {
-  cells = (let cells_count : length cells ≡ 12 = are.cells in let most : count ≤ 12 = are.most in omega (arith, length-append front (drop count cells), length-drop count cells));
+  cells = (let cells_count : length cells ≡ 12 = are.cells in let most : count ≤ 12 = are.most in
+      omega (arith, length-append front (drop count cells), length-drop count cells));
   some = are.some;
   most = are.most;
   unused = drop_at front (drop count cells) count whole ∙ are.unused;

@@ -17,16 +17,19 @@ length-draw_of amounts volume = length-draw_from (sum amounts) volume 0 amounts
 
 -- one more crude at the end
 pub draw_from_push : (total volume reached : ℕ) (amounts : List ℕ) (amount : ℕ) →
-    draw_from total volume reached (amounts ++ amount ∷ []) ≡ draw_from total volume reached amounts ++ (share_of total volume (reached + sum amounts + amount) - share_of total volume (reached + sum amounts)) ∷ []
+    draw_from total volume reached (amounts ++ amount ∷ []) ≡ draw_from total volume reached amounts
+    ++ (share_of total volume (reached + sum amounts + amount) - share_of total volume (reached + sum amounts)) ∷ []
 draw_from_push total volume reached [] amount =
     ap (λ (n : ℕ). (share_of total volume (n + amount) - share_of total volume n) ∷ []) (let e : reached ≡ reached + 0 = omega arith in e)
 draw_from_push total volume reached (first ∷ amounts) amount =
     let e : reached + first + sum amounts ≡ reached + sum (first ∷ amounts) = omega (arith, sum-cons first amounts) in
     ap (λ rest. (share_of total volume (reached + first) - share_of total volume reached) ∷ rest)
-    (draw_from_push total volume (reached + first) amounts amount ∙ ap (λ (n : ℕ). draw_from total volume (reached + first) amounts ++ (share_of total volume (n + amount) - share_of total volume n) ∷ []) e)
+    (draw_from_push total volume (reached + first) amounts amount
+    ∙ ap (λ (n : ℕ). draw_from total volume (reached + first) amounts ++ (share_of total volume (n + amount) - share_of total volume n) ∷ []) e)
 
 -- the draw of all crudes from here on is what the share rises by
-pub sum-draw_from : (total volume reached : ℕ) (amounts : List ℕ) → 0 < total → sum (draw_from total volume reached amounts) + share_of total volume reached ≡ share_of total volume (reached + sum amounts)
+pub sum-draw_from : (total volume reached : ℕ) (amounts : List ℕ) → 0 < total → sum (draw_from total volume reached amounts) + share_of total volume reached
+    ≡ share_of total volume (reached + sum amounts)
 sum-draw_from total volume reached [] some =
     let none : 0 + share_of total volume reached ≡ share_of total volume reached = omega arith in
     none ∙ ap (share_of total volume) (let e : reached ≡ reached + 0 = omega arith in e)
@@ -46,11 +49,13 @@ unfolding draw_of
 sum-draw_of amounts volume some =
     let whole = sum-draw_from (sum amounts) volume 0 amounts some in
     let nothing = share_of-nothing (sum amounts) volume some in
-    let all : share_of (sum amounts) volume (0 + sum amounts) ≡ volume = ap (share_of (sum amounts) volume) (let e : 0 + sum amounts ≡ sum amounts = omega arith in e) ∙ share_of-all (sum amounts) volume some in
+    let all : share_of (sum amounts) volume (0 + sum amounts)
+    ≡ volume = ap (share_of (sum amounts) volume) (let e : 0 + sum amounts ≡ sum amounts = omega arith in e) ∙ share_of-all (sum amounts) volume some in
     omega arith
 
 -- no part is more than was there
-pub draw_from-within : (total volume reached : ℕ) (amounts : List ℕ) (c : ℕ) → 0 < total → volume ≤ total → get_or (draw_from total volume reached amounts) c 0 ≤ get_or amounts c 0
+pub draw_from-within : (total volume reached : ℕ) (amounts : List ℕ) (c : ℕ) → 0 < total → volume ≤ total → get_or (draw_from total volume reached amounts) c 0
+    ≤ get_or amounts c 0
 draw_from-within total volume reached [] c some within = omega arith
 draw_from-within total volume reached (amount ∷ amounts) zero some within = omega (arith, share_of-step total volume reached amount some within)
 draw_from-within total volume reached (amount ∷ amounts) (suc c) some within = draw_from-within total volume (reached + amount) amounts c some within
@@ -61,15 +66,19 @@ draw_of-within amounts volume c some within = draw_from-within (sum amounts) vol
 
 -- each part by the shares of the crudes up to it and before it
 pub draw_from-at : (total volume reached : ℕ) (amounts : List ℕ) (c : ℕ) → c < length amounts →
-    get_or (draw_from total volume reached amounts) c 0 ≡ share_of total volume (reached + reached_by amounts (c + 1)) - share_of total volume (reached + reached_by amounts c)
+    get_or (draw_from total volume reached amounts) c 0 ≡ share_of total volume (reached + reached_by amounts (c + 1)) - share_of total volume
+    (reached + reached_by amounts c)
 draw_from-at total volume reached [] c within = absurd (omega arith)
 draw_from-at total volume reached (amount ∷ amounts) zero within =
     let front : reached ≡ reached + 0 = omega arith in
     let one : reached + amount ≡ reached + (0 + amount) = omega arith in
-    ap (λ (n : ℕ). share_of total volume (reached + amount) - share_of total volume n) front ∙ ap (λ (n : ℕ). share_of total volume n - share_of total volume (reached + 0)) one
+    ap (λ (n : ℕ). share_of total volume (reached + amount) - share_of total volume n) front
+    ∙ ap (λ (n : ℕ). share_of total volume n - share_of total volume (reached + 0)) one
 draw_from-at total volume reached (amount ∷ amounts) (suc c) within =
-    let now : reached + amount + reached_by amounts (c + 1) ≡ reached + reached_by (amount ∷ amounts) (suc (c + 1)) = omega (arith, sum-cons amount (take (c + 1) amounts)) in
-    let next : reached + reached_by (amount ∷ amounts) (suc (c + 1)) ≡ reached + reached_by (amount ∷ amounts) (suc c + 1) = (let e : suc (c + 1) ≡ suc c + 1 = omega arith in ap (λ (n : ℕ). reached + reached_by (amount ∷ amounts) n) e) in
+    let now : reached + amount + reached_by amounts (c + 1) ≡ reached + reached_by (amount ∷ amounts) (suc (c + 1)) =
+    omega (arith, sum-cons amount (take (c + 1) amounts)) in
+    let next : reached + reached_by (amount ∷ amounts) (suc (c + 1)) ≡ reached + reached_by (amount ∷ amounts) (suc c + 1) =
+    (let e : suc (c + 1) ≡ suc c + 1 = omega arith in ap (λ (n : ℕ). reached + reached_by (amount ∷ amounts) n) e) in
     let before : reached + amount + reached_by amounts c ≡ reached + reached_by (amount ∷ amounts) (suc c) = omega (arith, sum-cons amount (take c amounts)) in
     let here = draw_from-at total volume (reached + amount) amounts c (omega arith) in
     here

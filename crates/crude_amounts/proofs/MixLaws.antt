@@ -28,7 +28,8 @@ sum-mix_of (x ∷ held) [] same = absurd (omega arith)
 sum-mix_of (x ∷ held) (y ∷ more) same = omega (arith, sum-cons (x + y) (mix_of held more), sum-cons x held, sum-cons y more, sum-mix_of held more (omega arith))
 
 -- where no more is taken than is there
-pub sum-rest_of : (held drawn : List ℕ) → length drawn ≡ length held → ((c : ℕ) → get_or drawn c 0 ≤ get_or held c 0) → sum (rest_of held drawn) + sum drawn ≡ sum held
+pub sum-rest_of : (held drawn : List ℕ) → length drawn ≡ length held → ((c : ℕ) → get_or drawn c 0 ≤ get_or held c 0) → sum (rest_of held drawn) + sum drawn
+    ≡ sum held
 sum-rest_of [] [] same there = refl
 sum-rest_of [] (y ∷ drawn) same there = absurd (omega arith)
 sum-rest_of (x ∷ held) [] same there = absurd (omega arith)
@@ -52,14 +53,16 @@ rest_of-before (x ∷ held) (y ∷ drawn) zero = refl
 rest_of-before (x ∷ held) (y ∷ drawn) (suc i) = rest_of-before held drawn i
 
 -- a loop's step: crude i is added or taken too
-pub mix_of_more : (held more : List ℕ) (i : ℕ) → i < length more → mix_of held (take (suc i) more) ≡ set (mix_of held (take i more)) i (get_or held i 0 + get_or more i 0)
+pub mix_of_more : (held more : List ℕ) (i : ℕ) → i < length more → mix_of held (take (suc i) more)
+    ≡ set (mix_of held (take i more)) i (get_or held i 0 + get_or more i 0)
 mix_of_more held [] i within = absurd (omega arith)
 mix_of_more [] (y ∷ more) zero within = refl
 mix_of_more [] (y ∷ more) (suc i) within = refl
 mix_of_more (x ∷ held) (y ∷ more) zero within = ap (λ rest. (x + y) ∷ rest) (mix_of-nothing held)
 mix_of_more (x ∷ held) (y ∷ more) (suc i) within = ap (λ rest. (x + y) ∷ rest) (mix_of_more held more i (omega arith))
 
-pub rest_of_more : (held drawn : List ℕ) (i : ℕ) → i < length drawn → rest_of held (take (suc i) drawn) ≡ set (rest_of held (take i drawn)) i (get_or held i 0 - get_or drawn i 0)
+pub rest_of_more : (held drawn : List ℕ) (i : ℕ) → i < length drawn → rest_of held (take (suc i) drawn)
+    ≡ set (rest_of held (take i drawn)) i (get_or held i 0 - get_or drawn i 0)
 rest_of_more held [] i within = absurd (omega arith)
 rest_of_more [] (y ∷ drawn) zero within = refl
 rest_of_more [] (y ∷ drawn) (suc i) within = refl

@@ -28,7 +28,8 @@ share_of-monotone total volume reached more some order =
     le-div (share_of total volume reached) (more * volume) total some (omega arith)
 
 -- where the volume is at most the total, a crude has no more than there is of it
-pub share_of-step : (total volume reached amount : ℕ) → 0 < total → volume ≤ total → share_of total volume (reached + amount) ≤ share_of total volume reached + amount
+pub share_of-step : (total volume reached amount : ℕ) → 0 < total → volume ≤ total → share_of total volume (reached + amount)
+    ≤ share_of total volume reached + amount
 share_of-step total volume reached amount some within =
     let next = share_of-next total volume reached some in
     let up : amount * volume ≤ amount * total = mul-le-mul_left amount within in

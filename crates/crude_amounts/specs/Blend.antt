@@ -13,4 +13,5 @@ variation_of (weight ∷ next ∷ weights) = unsigned_abs (next -ℤ weight) + v
 abbrev pub IsNearlyShared : List ℕ → ℕ → List ℕ → Type 0
 IsNearlyShared amounts volume drawn =
     (weights : List ℤ) → length weights ≡ length amounts →
-    unsigned_abs ((pos (sum amounts) *ℤ weighted_of drawn weights) -ℤ (pos volume *ℤ weighted_of amounts weights)) ≤ sum amounts * variation_of weights
+    unsigned_abs ((pos (sum amounts) *ℤ weighted_of drawn weights) -ℤ (pos volume *ℤ weighted_of amounts weights))
+    ≤ sum amounts * variation_of weights

@@ -32,4 +32,5 @@ cells_of-amounts_in inside are =
     ap (λ (n : ℕ). amounts_in inside ++ replicate (12 - n) 0) count
     ∙ ap (λ (rest : List ℕ). amounts_in inside ++ rest) (sym are.unused)
     ∙ take-append-drop inside.count inside.cells in
-    ap (λ (n : ℕ). cells_with n (amounts_in inside ++ replicate (12 - length (amounts_in inside)) 0)) count ∙ ap (cells_with inside.count) cells
+    ap (λ (n : ℕ). cells_with n (amounts_in inside ++ replicate (12 - length (amounts_in inside)) 0)) count
+    ∙ ap (cells_with inside.count) cells

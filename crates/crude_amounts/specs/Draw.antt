@@ -11,7 +11,8 @@ share_of total volume reached = reached * volume / total
 abbrev pub draw_from : ℕ → ℕ → ℕ → List ℕ → List ℕ
 draw_from total volume reached [] = []
 draw_from total volume reached (amount ∷ amounts) =
-    (share_of total volume (reached + amount) - share_of total volume reached) ∷ draw_from total volume (reached + amount) amounts
+    (share_of total volume (reached + amount) - share_of total volume reached)
+    ∷ draw_from total volume (reached + amount) amounts
 
 -- what a draw of the volume takes of each crude
 unfoldable pub draw_of : List ℕ → ℕ → List ℕ
@@ -25,4 +26,5 @@ reached_by amounts count = sum (take count amounts)
 abbrev pub DrawsByShares : List ℕ → ℕ → List ℕ → Type 0
 DrawsByShares amounts volume drawn =
     (c : ℕ) → c < length amounts →
-    slice_index drawn c ≡ share_of (sum amounts) volume (reached_by amounts (c + 1)) - share_of (sum amounts) volume (reached_by amounts c)
+    slice_index drawn c ≡ share_of (sum amounts) volume (reached_by amounts (c + 1)) - share_of (sum amounts) volume
+    (reached_by amounts c)

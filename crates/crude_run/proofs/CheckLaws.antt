@@ -20,18 +20,3 @@ pub answer_yes : (parts : Parts) (text : List ℕ) (claim : Claim) (made : Resul
     → IfOk made (λ answer. answer ≡ accepted claim.answer claim.margin claim.bound) → IfOk made (Checks parts text)
 answer_yes parts text claim (Ok answer) given holds told = inl (record { claim = claim; given = given; holds = holds; says = told })
 answer_yes parts text claim (Err refused) given holds told = tt
-
--- to a no
-pub answer_no : (parts : Parts) (text : List ℕ) (number line : ℕ) (made : Result Answer AllocError) → first_of (reasons_of parts text) ≡ Some (reason number line)
-    → IsYesOfAccepted parts text (No number line) → IfOk made (λ answer. answer ≡ not_accepted number line) → IfOk made (Checks parts text)
-answer_no parts text number line (Err refused) first accept told = tt
-answer_no parts text number line (Ok answer) first accept told =
-    inr (record {
-      none = λ claim given.
-          let clash : ◌≡◌ {A = Verdict} (No number line) (Yes (claim_of parts given.dossier)) = accept given.dossier given.readable given.text given.accepted in
-          absurd cc;
-      number = number;
-      line = line;
-      first = first;
-      says = told;
-    })

@@ -6,7 +6,7 @@ use Rattle.line_text.specs.Decimal.{HasOneNumber}
 use Rattle.plant_model.specs.declared.parts.Parts.{Parts}
 use Rattle.plant_text.specs.PlantText.{plant_of}
 use Rattle.slot_box.specs.Boxes.{points_of}
-use Rattle.leaf_value.specs.PlainValue.{root_box_of}
+use Rattle.slot_forms.specs.Cases.{plain, root_box}
 use Rattle.dossier_text.specs.declared.dossier.Word3.{Word3}
 use Rattle.dossier_text.specs.declared.dossier.Word3.TheVariants.{Plan, Infeasible, Open3}
 use Rattle.crude_run.specs.declared.answer.Answer.{Answer}
@@ -24,11 +24,13 @@ use Rattle.crude_run.specs.Completeness.{IsAtHand, IsPlantAtHand, NoWriteFailed,
 -- ---- lines
 
 -- words are the plain line of one command alone
-same_plant : (words : List (List ℕ)) (plant other : List ℕ) (ask asked : Ask) → IsPlainLine words (Solve plant ask) → IsPlainLine words (Solve other asked) → other ≡ plant
+same_plant : (words : List (List ℕ)) (plant other : List ℕ) (ask asked : Ask) → IsPlainLine words (Solve plant ask) → IsPlainLine words (Solve other asked) →
+    other ≡ plant
 same_plant words plant other ask asked first second =
     let both : line_words (Solve other asked) ≡ line_words (Solve plant ask) = sym second.0 ∙ first.0 in cc
 
-same_ask : HasOneNumber → (words : List (List ℕ)) (plant other : List ℕ) (ask asked : Ask) → IsPlainLine words (Solve plant ask) → IsPlainLine words (Solve other asked) → asked ≡ ask
+same_ask : HasOneNumber → (words : List (List ℕ)) (plant other : List ℕ) (ask asked : Ask) → IsPlainLine words (Solve plant ask) →
+    IsPlainLine words (Solve other asked) → asked ≡ ask
 same_ask one words plant other ask asked first second =
     let both : line_words (Solve other asked) ≡ line_words (Solve plant ask) = sym second.0 ∙ first.0 in
     let slots_word : decimal asked.slots ≡ decimal ask.slots = cc in
@@ -66,9 +68,9 @@ dossier_status parts ask answer solved = by_word solved.dossier.answer refl
     by_word Infeasible is = inr (inl (solved.status ∙ ap status_of is))
     by_word Open3 is = inr (inr (inl (solved.status ∙ ap status_of is, open_only)))
       where
-        open_only : points_of (root_box_of parts ask.slots) ≤ ask.nodes + 1 → ⊥
+        open_only : points_of (root_box (plain parts ask.slots)) ≤ ask.nodes + 1 → ⊥
         open_only few =
-            elim (solved.solution.spends.decided few) [
+            elim (solved.solution.decided few) [
               | inl none ↦ absurd (let clash : Open3 ≡ Infeasible = sym is ∙ none in cc)
               | inr plan ↦ absurd (let clash : Open3 ≡ Plan = sym is ∙ plan.0 in cc)
             ]
@@ -81,7 +83,8 @@ verdict_status parts text answer (inr refused) = inr (inl (ap (λ a. a.status) r
 -- ---- files at hand
 
 -- what is read of a file at hand is the file
-of_at_hand : (files : Files) (number : ℕ) (name : List ℕ) (limit : ℕ) (file : List ℕ) (Then : List ℕ → Answer → Type 0) (answer : Answer) → IsAtHand files name limit file → OfFile files number name limit Then answer → Then file answer
+of_at_hand : (files : Files) (number : ℕ) (name : List ℕ) (limit : ℕ) (file : List ℕ) (Then : List ℕ → Answer → Type 0) (answer : Answer) →
+    IsAtHand files name limit file → OfFile files number name limit Then answer → Then file answer
 of_at_hand files number name limit file Then answer is (bytes found, may, owed) =
     let same : found ≡ file = subst (λ told. IfSome told (λ text. found ≡ text)) is.told may.1 in
     subst (λ text. Then text answer) same owed
@@ -91,7 +94,8 @@ of_at_hand files number name limit file Then answer is (longer, may, owed) =
     absurd (let short = is.short in omega arith)
 
 -- and the plant is that of the file
-of_plant_at_hand : (files : Files) (name : List ℕ) (parts : Parts) (Then : Parts → Answer → Type 0) (answer : Answer) → IsPlantAtHand files name parts → OfPlantFile files name Then answer → Then parts answer
+of_plant_at_hand : (files : Files) (name : List ℕ) (parts : Parts) (Then : Parts → Answer → Type 0) (answer : Answer) → IsPlantAtHand files name parts →
+    OfPlantFile files name Then answer → Then parts answer
 of_plant_at_hand files name parts Then answer is owed =
     subst (λ read. OfPlant Then read answer) is.accepted
     (of_at_hand files 1 name plant_limit is.file (λ text. OfPlant Then (plant_of text)) answer is.at_hand owed)
@@ -99,13 +103,15 @@ of_plant_at_hand files name parts Then answer is owed =
 -- ---- the run
 
 -- what words call for that are the line of a command is what the command calls for
-called : HasOneNumber → (words : List (List ℕ)) (command : Command) (files : Files) (answer : Answer) → IsPlainLine words command → CallsFor words files answer → Serves command files answer
+called : HasOneNumber → (words : List (List ℕ)) (command : Command) (files : Files) (answer : Answer) → IsPlainLine words command → CallsFor words files answer
+    → Serves command files answer
 called one words command files answer line (inl refused) = absurd (refused.0 command line)
 called one words command files answer line (inr (other, plain, serves)) =
     subst (λ c. Serves c files answer) (same_command one words command other line plain) serves
 
 -- a run whose writes did not fail has the status of the answer, or memory was wanting
-ended : (P : ℕ → Type 0) (Owed : Answer → Type 0) (outlet : Outlet) (status : ℕ) → NoWriteFailed outlet → P status_no_memory → ((answer : Answer) → Owed answer → P answer.status) → Answered Owed outlet status → P status
+ended : (P : ℕ → Type 0) (Owed : Answer → Type 0) (outlet : Outlet) (status : ℕ) → NoWriteFailed outlet → P status_no_memory →
+    ((answer : Answer) → Owed answer → P answer.status) → Answered Owed outlet status → P status
 ended P Owed outlet status sent memory served answered =
     elim (cases_eq status status_no_memory) [
       | inl full ↦ subst P (sym full) memory
@@ -117,12 +123,16 @@ ended P Owed outlet status sent memory served answered =
     ]
 
 -- so a run is complete
-pub IsComplete-from : HasOneNumber → (words : List (List ℕ)) (files : Files) (outlet : Outlet) (status : ℕ) → Answered (CallsFor words files) outlet status → IsComplete words files outlet status
+pub IsComplete-from : HasOneNumber → (words : List (List ℕ)) (files : Files) (outlet : Outlet) (status : ℕ) → Answered (CallsFor words files) outlet status →
+    IsComplete words files outlet status
 IsComplete-from one words files outlet status answered = record {
   solves = λ plant ask parts line there sent.
       ended (HasDossierStatus parts ask) (CallsFor words files) outlet status sent (inr (inr (inr refl)))
-      (λ answer owed. dossier_status parts ask answer (of_plant_at_hand files plant parts _ answer there (called one words (Solve plant ask) files answer line owed))) answered;
+      (λ answer owed. dossier_status parts ask answer
+      (of_plant_at_hand files plant parts _ answer there (called one words (Solve plant ask) files answer line owed))) answered;
   checks = λ plant dossier file parts line there second sent.
       ended HasVerdictStatus (CallsFor words files) outlet status sent (inr (inr refl))
-      (λ answer owed. verdict_status parts file answer (of_at_hand files 2 dossier _ file (Checks parts) answer second (of_plant_at_hand files plant parts _ answer there (called one words (Check plant dossier) files answer line owed)))) answered;
+      (λ answer owed. verdict_status parts file answer
+      (of_at_hand files 2 dossier _ file (Checks parts) answer second
+      (of_plant_at_hand files plant parts _ answer there (called one words (Check plant dossier) files answer line owed)))) answered;
 }

@@ -52,24 +52,3 @@ serves_below (Solve plant ask) files answer (read, may, owed) =
     read_below 1 _ (λ text. plant_below _ (λ parts. solves_below parts ask.slots ask.nodes) (plant_of text)) read answer owed
 serves_below (Check plant dossier) files answer (read, may, owed) =
     read_below 1 _ (λ text. plant_below _ (λ parts due second. read_below 2 _ (checks_below parts) second.0 due second.2) (plant_of text)) read answer owed
-
--- ---- the answer that is due
-
--- what is so of the answer that is due has consequences
-pub IfDue-map : (P Q : Answer → Type 0) → ((answer : Answer) → P answer → Q answer) → (outcome : Result Answer Stop) → IfDue outcome P → IfDue outcome Q
-IfDue-map P Q then (Ok answer) due = then answer due
-IfDue-map P Q then (Err (stop.Due answer)) due = then answer due
-IfDue-map P Q then (Err stop.Memory) due = tt
-
-owed : (P : Answer → Type 0) (outcome : Result Answer Stop) → IfDue outcome P → (answer : Answer) → IsDue outcome answer → P answer
-owed P (Ok due) is answer same = subst P (sym same) is
-owed P (Err (stop.Due due)) is answer same = subst P (sym same) is
-owed P (Err stop.Memory) is answer same = absurd same
-
--- a run that owed the answer that is due owed one of which the same is so
-pub Answered-due : (P : Answer → Type 0) (outcome : Result Answer Stop) (outlet : Outlet) (status : ℕ) → IfDue outcome P → Answered (IsDue outcome) outlet status → Answered P outlet status
-Answered-due P outcome outlet status is ended = record {
-  memory = ended.memory;
-  broken_off = λ short. let part = ended.broken_off short in (part.0, (part.1.0, owed P outcome is part.1.0 part.1.1, part.1.2));
-  whole = λ full sent. let all = ended.whole full sent in (all.0, all.1, owed P outcome is all.0 all.2, all.3);
-}

@@ -4,3 +4,4 @@ pub mod OpeningLaws
 pub mod CheckLaws
 pub mod SolutionLaws
 pub mod CompleteLaws
+pub mod HiddenLaws

@@ -14,40 +14,29 @@ use Rattle.crude_run.specs.Stopping.{OnStop, IfStopped, NoAnswer, MayGivePlant, 
 
 -- ---- where no answer comes of what is read, none is missing
 
-plant_anywhere : (Then : Parts → Answer → Type 0) (read : Result Parts PlantTextFault) (answer : Answer) → OfPlant NoAnswer read answer → OfPlant Then read answer
-plant_anywhere Then (Ok parts) answer owed = absurd owed
-plant_anywhere Then (Err fault.Json) answer owed = owed
-plant_anywhere Then (Err (fault.Shape place)) answer owed = owed
-plant_anywhere Then (Err (fault.Plant found)) answer owed = owed
-plant_anywhere Then (Err (fault.NotYet section)) answer owed = owed
-plant_anywhere Then (Err fault.Memory) answer owed = owed
-
-read_anywhere : (number : ℕ) (Then : List ℕ → Answer → Type 0) (read : FileRead) (answer : Answer) → OfRead number NoAnswer read answer → OfRead number Then read answer
+read_anywhere : (number : ℕ) (Then : List ℕ → Answer → Type 0) (read : FileRead) (answer : Answer) → OfRead number NoAnswer read answer →
+    OfRead number Then read answer
 read_anywhere number Then (bytes found) answer owed = absurd owed
 read_anywhere number Then failed answer owed = owed
 read_anywhere number Then longer answer owed = owed
 
--- a plant file that has stopped a command
-pub stopped_plant : (files : Files) (name : List ℕ) (Then : Parts → Answer → Type 0) (stopped : Stop) → OnStop stopped (OfPlantFile files name NoAnswer) → OnStop stopped (OfPlantFile files name Then)
-stopped_plant files name Then (stop.Due answer) (bytes found, may, owed) = (bytes found, may, plant_anywhere Then (plant_of found) answer owed)
-stopped_plant files name Then (stop.Due answer) (failed, may, owed) = (failed, may, owed)
-stopped_plant files name Then (stop.Due answer) (longer, may, owed) = (longer, may, owed)
-stopped_plant files name Then stop.Memory owed = tt
-
 -- the answer where the text of the plant file has stopped a command
-pub stopped_text : {X : Type 0} (files : Files) (name found : List ℕ) (made : Result X Stop) → MayGive files name plant_limit (bytes found) → IfStopped made (OfPlant NoAnswer (plant_of found)) → IfStopped made (OfPlantFile files name NoAnswer)
+pub stopped_text : {X : Type 0} (files : Files) (name found : List ℕ) (made : Result X Stop) → MayGive files name plant_limit (bytes found) →
+    IfStopped made (OfPlant NoAnswer (plant_of found)) → IfStopped made (OfPlantFile files name NoAnswer)
 stopped_text files name found (Ok x) may owed = tt
 stopped_text files name found (Err (stop.Due answer)) may owed = (bytes found, may, owed)
 stopped_text files name found (Err stop.Memory) may owed = tt
 
 -- the answer to a plant that the plant file may have given
-pub of_plant : (files : Files) (name : List ℕ) (parts : Parts) (Then : Parts → Answer → Type 0) (answer : Answer) → MayGivePlant files name parts → Then parts answer → OfPlantFile files name Then answer
+pub of_plant : (files : Files) (name : List ℕ) (parts : Parts) (Then : Parts → Answer → Type 0) (answer : Answer) → MayGivePlant files name parts →
+    Then parts answer → OfPlantFile files name Then answer
 of_plant files name parts Then answer given owed =
     (bytes given.file, given.may, subst (λ read. OfPlant Then read answer) (sym given.is) owed)
 
 -- ---- two reads
 
-module _ {Shelf : Type 0} (told : Shelf → List ℕ → Option (List ℕ)) (faults : Shelf → List ℕ → ℕ) (longs : Shelf → List ℕ → ℕ → ℕ) (before between after : Shelf) where
+module _ {Shelf : Type 0} (told : Shelf → List ℕ → Option (List ℕ)) (faults : Shelf → List ℕ → ℕ) (longs : Shelf → List ℕ → ℕ → ℕ)
+    (before between after : Shelf) where
   -- what an earlier read may have given
   may_until : IsLater told faults longs between after → (name : List ℕ) (limit : ℕ) (read : FileRead)
       → MayGive (files_between told faults longs before between) name limit read → MayGive (files_between told faults longs before after) name limit read
@@ -63,18 +52,24 @@ module _ {Shelf : Type 0} (told : Shelf → List ℕ → Option (List ℕ)) (fau
   may_since later name limit longer may = (let stay = later.longs_stay name limit in let rose = may.0 in omega arith, rw (← later.told_stays) may.1)
 
   -- a plant of the first read, and then the answer to the second file
-  pub of_both : IsLater told faults longs before between → IsLater told faults longs between after → (name : List ℕ) (parts : Parts) → MayGivePlant (files_between told faults longs before between) name parts
-      → (other : List ℕ) (limit : ℕ) (Then : Parts → List ℕ → Answer → Type 0) (answer : Answer) → OfFile (files_between told faults longs between after) 2 other limit (Then parts) answer
-      → OfPlantFile (files_between told faults longs before after) name (λ plant. OfFile (files_between told faults longs before after) 2 other limit (Then plant)) answer
+  pub of_both : IsLater told faults longs before between → IsLater told faults longs between after → (name : List ℕ) (parts : Parts) →
+      MayGivePlant (files_between told faults longs before between) name parts
+      → (other : List ℕ) (limit : ℕ) (Then : Parts → List ℕ → Answer → Type 0) (answer : Answer) →
+      OfFile (files_between told faults longs between after) 2 other limit (Then parts) answer
+      → OfPlantFile (files_between told faults longs before after) name
+      (λ plant. OfFile (files_between told faults longs before after) 2 other limit (Then plant)) answer
   of_both first second name parts given other limit Then answer (read, may, owed) =
       of_plant (files_between told faults longs before after) name parts _ answer
       (record { file = given.file; may = may_until second name plant_limit (bytes given.file) given.may; is = given.is })
       (read, may_since first other limit read may, owed)
 
   -- a second file that has stopped a command
-  pub stopped_both : IsLater told faults longs before between → IsLater told faults longs between after → (name : List ℕ) (parts : Parts) → MayGivePlant (files_between told faults longs before between) name parts
-      → (other : List ℕ) (limit : ℕ) (Then : Parts → List ℕ → Answer → Type 0) (stopped : Stop) → OnStop stopped (OfFile (files_between told faults longs between after) 2 other limit NoAnswer)
-      → OnStop stopped (OfPlantFile (files_between told faults longs before after) name (λ plant. OfFile (files_between told faults longs before after) 2 other limit (Then plant)))
+  pub stopped_both : IsLater told faults longs before between → IsLater told faults longs between after → (name : List ℕ) (parts : Parts) →
+      MayGivePlant (files_between told faults longs before between) name parts
+      → (other : List ℕ) (limit : ℕ) (Then : Parts → List ℕ → Answer → Type 0) (stopped : Stop) →
+      OnStop stopped (OfFile (files_between told faults longs between after) 2 other limit NoAnswer)
+      → OnStop stopped (OfPlantFile (files_between told faults longs before after) name
+      (λ plant. OfFile (files_between told faults longs before after) 2 other limit (Then plant)))
   stopped_both first second name parts given other limit Then (stop.Due answer) (read, may, owed) =
       of_both first second name parts given other limit Then answer (read, may, read_anywhere 2 (Then parts) read answer owed)
   stopped_both first second name parts given other limit Then stop.Memory owed = tt

@@ -3,20 +3,20 @@ use Rattle.std.proofs.Common.{◌≡◌, ℕ, ℤ, inl, inr, ◌+◌, ◌<◌, �
 use Rattle.std.specs.Prelude.{◌⊎◌, IfSome, All}
 use Rattle.std.proofs.lemmas.Int.{ints}
 use Rattle.std.proofs.lemmas.List.{length-map}
+use Rattle.limits.specs.declared.TheConstants.{MOST_NODES, MOST_SLOTS}
 use Rattle.plant_model.specs.declared.parts.Parts.{Parts}
 use Rattle.plant_model.specs.Parts.{op_count_of}
-use Rattle.slot_box.specs.declared.node.Leaf.{Leaf as LeafKind}
-use Rattle.slot_box.specs.declared.node.Leaf.TheVariants.{Dead, Void, Dual, Undone, Point}
 use Rattle.slot_box.specs.declared.node.Node.{Node}
 use Rattle.slot_box.specs.declared.slot.Slot.{Slot}
-use Rattle.slot_box.specs.declared.term.Term.{Term}
 use Rattle.slot_box.specs.Boxes.{points_of}
 use Rattle.replay_core.specs.declared.timed.Timed.{Timed}
 use Rattle.replay_core.specs.Claim.{IsPlanOf}
 use Rattle.replay_core.specs.Legal.{IsLegal, IsInRange}
-use Rattle.leaf_value.specs.declared.point.Planned.{Planned}
-use Rattle.leaf_value.specs.LeafValue.{leaf_value_of}
-use Rattle.leaf_value.specs.PlainValue.{root_box_of}
+use Rattle.replay_core.specs.declared.planned.Planned.{Planned}
+use Rattle.slot_forms.specs.Cases.{IsCasePlan, plain, root_box}
+use Rattle.leaf_value.specs.Settings.{Setting, plain_setting}
+use Rattle.leaf_value.specs.LeafValue.{IsAtMost}
+use Rattle.leaf_value.specs.TreeValue.{IsLeafValue, NoLeafHasValue, IsBoundOf, TreeBoundsAreTrue}
 use Rattle.plan_text.specs.declared.op_line.OpLine.{OpLine}
 use Rattle.plan_text.specs.OpLine.{IsOpLine}
 use Rattle.dossier_text.specs.declared.dossier.Dossier.{Dossier}
@@ -25,42 +25,22 @@ use Rattle.dossier_text.specs.declared.dossier.Word3.TheVariants.{Plan, Infeasib
 use Rattle.dossier_text.specs.Ranges.{IsReadable, AreOpLines}
 use Rattle.dossier_check.specs.Accepted.{FitsAnswer, IsGivenPlan, IsAccepted}
 use Rattle.dossier_check.specs.Claims.{AcceptedClaimsAreTrue}
-use Rattle.dossier_check.specs.Nodes.{IsLeaf, IsLeafValue, IsBoundOf}
 use Rattle.dossier_check.specs.Plans.{timed_of, plan_of}
 use Rattle.box_search.specs.declared.search.Found.{Found}
-use Rattle.box_search.specs.Searched.{IsFound}
-use Rattle.box_search.specs.Searching.{IsClosed, best_margin}
-use Rattle.box_search.specs.Values.{IsAtMost}
+use Rattle.box_search.specs.Searched.{IsFound, best_margin}
 use Rattle.crude_run.specs.declared.conclude.Head.{Head}
 use Rattle.crude_run.specs.Concluding.{IsHeadOf}
-use Rattle.crude_run.specs.Solving.{IsLeafOver, IsOpen, IsSolution}
-
--- ---- leaves
-
--- a leaf that was left open
-record IsLeftOpen (t budget : ℕ) (box : List Slot) (leaf : LeafKind) : Type 0 where
-  q : ℕ
-  terms : List Term
-  undone : leaf ≡ Undone q terms
-  spent : t ≡ budget
-  wide : IsOpen box leaf
-
--- a leaf with a value was left open, or its value does not beat the best margin
-closed_cases : (parts : Parts) (t budget : ℕ) (best : Option ℤ) (box : List Slot) (leaf : LeafKind) (value : ℤ) → IsClosed parts t budget best box leaf → leaf_value_of parts box leaf ≡ Some value → IsLeftOpen t budget box leaf ⊎ IsAtMost (Some value) best
-closed_cases parts t budget best box (Dead at) value closed valued = absurd closed
-closed_cases parts t budget best box (Void terms) value closed valued = absurd closed
-closed_cases parts t budget best box (Undone q terms) value closed valued =
-    inl (record { q = q; terms = terms; undone = refl; spent = closed.0; wide = closed.1 })
-closed_cases parts t budget best box (Dual q terms) value closed valued =
-    inr (subst (λ v. IsAtMost v best) valued closed)
-closed_cases parts t budget best box Point value closed valued =
-    inr (subst (λ v. IsAtMost v best) valued closed)
+use Rattle.crude_run.specs.Solving.{IsSolution}
 
 -- ---- the dossiers of a search that has ended
 
-module _ (parts : Parts) (n budget : ℕ) (some : 1 ≤ n) (most : n ≤ 40) (nodes : budget ≤ 65535) (claims : AcceptedClaimsAreTrue parts) (t : ℕ) (tree : List Node) where
+module _ (parts : Parts) (n budget : ℕ) (some : 1 ≤ n) (most : n ≤ MOST_SLOTS) (nodes : budget ≤ MOST_NODES) (claims : AcceptedClaimsAreTrue parts)
+    (bounds : TreeBoundsAreTrue (plain_setting parts n)) (t : ℕ) (tree : List Node) where
+  abbrev setting : Setting
+  setting = plain_setting parts n
+
   abbrev root : List Slot
-  root = root_box_of parts n
+  root = root_box (plain parts n)
 
   abbrev dossier_of : Word3 → Option ℤ → Option ℤ → Option (List OpLine) → Dossier
   dossier_of answer margin bound plan = record {
@@ -82,25 +62,26 @@ module _ (parts : Parts) (n budget : ℕ) (some : 1 ≤ n) (most : n ≤ 40) (no
     margin = best_margin best
 
     -- a leaf with a value was left open, or its value does not beat the best margin
-    leaf_cases : (answer : Word3) (plan : Option (List OpLine)) (box : List Slot) (leaf : LeafKind) (value : ℤ) → IsLeafOver root (dossier_of answer margin bound plan) box leaf → leaf_value_of parts box leaf ≡ Some value → IsLeftOpen t budget box leaf ⊎ IsAtMost (Some value) margin
-    leaf_cases answer plan box leaf value over valued =
-        closed_cases parts t budget margin box leaf value (found.closed over.id box leaf over.has_box over.there) valued
-
-    value_cases : (value : ℤ) → IsLeafValue parts root tree value → ((t ≡ budget) × (points_of root ≤ budget + 1 → ⊥)) ⊎ IsAtMost (Some value) margin
+    value_cases : (value : ℤ) → IsLeafValue setting tree value → ((t ≡ budget) × (points_of root ≤ budget + 1 → ⊥)) ⊎ IsAtMost (Some value) margin
     value_cases value is =
-        elim (closed_cases parts t budget margin is.box is.leaf value (found.closed is.id is.box is.leaf is.has_box is.there) is.valued) [
-          | inl left ↦ inl (left.spent, λ few. found.decided few is.id left.q left.terms is.box is.has_box (subst (IsLeaf tree is.id) left.undone is.there))
-          | inr most ↦ inr most
+        elim (found.budget_kept.closed is.box is.leaf is.over) [
+          | inl opened ↦ inl (
+            sym found.inner ∙ (found.budget_kept.spent is.box is.leaf is.over opened).0,
+            λ few. found.budget_kept.decided few is.box is.leaf
+                is.over opened,
+          )
+          | inr most_value ↦ inr (subst (λ v. IsAtMost v margin) is.valued most_value)
         ]
 
-    spent : (answer : Word3) (plan : Option (List OpLine)) (box : List Slot) (q : ℕ) (terms : List Term) → IsLeafOver root (dossier_of answer margin bound plan) box (Undone q terms) → (t ≡ budget) × (2 ≤ points_of box)
-    spent answer plan box q terms over = found.closed over.id box (Undone q terms) over.has_box over.there
+    within : t ≤ budget
+    within = let all = found.budget_kept.within in let same = found.inner in omega arith
 
-    accepted : (answer : Word3) (plan : Option (List OpLine)) → FitsAnswer answer margin bound plan → IsGivenPlan parts n margin plan → IsAccepted parts (dossier_of answer margin bound plan)
+    accepted : (answer : Word3) (plan : Option (List OpLine)) → FitsAnswer answer margin bound plan → IsGivenPlan (plain parts n) margin plan →
+        IsAccepted parts (dossier_of answer margin bound plan)
     accepted answer plan fits given = record {
       some_slots = some;
       most_slots = most;
-      cuts = refl;
+      cuts = λ i cut inside. absurd (omega arith);
       tickets = found.tickets;
       parents = found.parents;
       nodes = found.lawful;
@@ -109,10 +90,11 @@ module _ (parts : Parts) (n budget : ℕ) (some : 1 ≤ n) (most : n ≤ 40) (no
       plan = given;
     }
 
-    readable : (answer : Word3) (plan : Option (List OpLine)) → IfSome margin (FitsSigned w64) → IfSome bound (FitsSigned w64) → IfSome plan (λ lines. (length lines ≤ 40) × AreOpLines 1 lines) → IsReadable (dossier_of answer margin bound plan)
+    readable : (answer : Word3) (plan : Option (List OpLine)) → IfSome margin (FitsSigned w64) → IfSome bound (FitsSigned w64) →
+        IfSome plan (λ lines. (length lines ≤ MOST_SLOTS) × AreOpLines 1 lines) → IsReadable (dossier_of answer margin bound plan)
     readable answer plan margin_fits bound_fits lines = record {
       slots = let m = most in omega arith;
-      nodes = let w = found.within in let n = nodes in omega arith;
+      nodes = let w = within in let n = nodes in omega arith;
       margin = margin_fits;
       bound = bound_fits;
       plan = lines;
@@ -130,79 +112,71 @@ module _ (parts : Parts) (n budget : ℕ) (some : 1 ≤ n) (most : n ≤ 40) (no
     accepted = accept;
     claim = claims _ accept;
     infeasible = (λ is. found.bound, λ none. refl);
-    spends = record {
-      within = found.within;
-      inner = found.inner;
-      spent = spent None None found Infeasible None;
-      above = tt;
-      bound = λ is less. absurd (let clash : Infeasible ≡ Plan = is in cc);
-      none_found = λ is. absurd (let clash : Infeasible ≡ Open3 = is in cc);
-      decided = λ few. inl refl;
-    };
+    inner = found.inner;
+    budget_kept = found.budget_kept;
+    bound = λ is less. absurd (let clash : Infeasible ≡ Plan = is in cc);
+    none_found = λ is. absurd (let clash : Infeasible ≡ Open3 = is in cc);
+    decided = λ few. inl refl;
   }
     where
       accept : IsAccepted parts (dossier_of Infeasible None None None)
       accept = accepted None None found Infeasible None tt tt
 
   -- no plan was found
-  pub IsSolution-open : (bound : ℤ) → IsFound parts n budget (found_of None (Some bound)) → FitsSigned w64 bound → IsSolution parts n budget (dossier_of Open3 None (Some bound) None)
+  pub IsSolution-open : (bound : ℤ) → IsFound parts n budget (found_of None (Some bound)) → FitsSigned w64 bound →
+      IsSolution parts n budget (dossier_of Open3 None (Some bound) None)
   IsSolution-open bound found fits = record {
     slots = refl;
     readable = readable None (Some bound) found Open3 None tt fits tt;
     accepted = accept;
     claim = claims _ accept;
     infeasible = (λ is. absurd (let clash : Open3 ≡ Infeasible = is in cc), λ none. absurd (none bound found.bound.there));
-    spends = record {
-      within = found.within;
-      inner = found.inner;
-      spent = spent None (Some bound) found Open3 None;
-      above = tt;
-      bound = λ is less. absurd (let clash : Open3 ≡ Plan = is in cc);
-      none_found = λ is. (all_spent, wide);
-      decided = λ few. absurd (elim (value_cases None (Some bound) found bound found.bound.there) [ inl left ↦ left.1 few | inr most ↦ most ]);
-    };
+    inner = found.inner;
+    budget_kept = found.budget_kept;
+    bound = λ is less. absurd (let clash : Open3 ≡ Plan = is in cc);
+    none_found = λ is. elim (value_cases None (Some bound) found bound found.bound.there) [ inl left ↦ left.0 | inr most ↦ absurd most ];
+    decided = λ few. absurd (elim (value_cases None (Some bound) found bound found.bound.there) [ inl left ↦ left.1 few | inr most ↦ most ]);
   }
     where
       accept : IsAccepted parts (dossier_of Open3 None (Some bound) None)
       accept = accepted None (Some bound) found Open3 None tt tt
 
-      all_spent : t ≡ budget
-      all_spent = elim (value_cases None (Some bound) found bound found.bound.there) [ inl left ↦ left.0 | inr most ↦ absurd most ]
-
-      wide : (box : List Slot) (leaf : LeafKind) (value : ℤ) → IsLeafOver root (dossier_of Open3 None (Some bound) None) box leaf → leaf_value_of parts box leaf ≡ Some value → IsOpen box leaf
-      wide box leaf value over valued =
-          elim (leaf_cases None (Some bound) found Open3 None box leaf value over valued) [ inl left ↦ left.wide | inr most ↦ absurd most ]
-
   -- a plan was found
-  module _ (planned : Planned) (bound : Option ℤ) (lines : List OpLine) (found : IsFound parts n budget (found_of (Some planned) bound)) (steps : plan_of parts lines ≡ planned.steps) (numbered : AreOpLines 1 lines) (margin_fits : FitsSigned w64 planned.margin) (bound_fits : IfSome bound (FitsSigned w64)) where
+  module _ (planned : Planned) (bound : Option ℤ) (lines : List OpLine) (found : IsFound parts n budget (found_of (Some planned) bound))
+      (steps : plan_of parts lines ≡ planned.plan) (numbered : AreOpLines 1 lines) (margin_fits : FitsSigned w64 planned.margin)
+      (bound_fits : IfSome bound (FitsSigned w64)) where
     given : IsPlanOf parts n planned.margin (plan_of parts lines)
     given = subst (IsPlanOf parts n planned.margin) (sym steps) found.plan
 
-    few_lines : length lines ≤ 40
+    few_lines : length lines ≤ MOST_SLOTS
     few_lines = let short = given.short in let same = length-map lines (timed_of parts) in let m = most in omega arith
 
     accept : IsAccepted parts (dossier_of Plan (Some planned.margin) bound (Some lines))
-    accept = accepted (Some planned) bound found Plan (Some lines) tt given
+    accept = accepted (Some planned) bound found Plan (Some lines) tt (record { legal = given.legal; short = given.short; goes_on = tt }, given.earns)
+
+    -- the plan is one of the case, so that some leaf has a value, and none a lesser one than its margin
+    case_plan : IsCasePlan (plain parts n) planned.plan
+    case_plan = record { legal = found.plan.legal; short = found.plan.short; goes_on = tt }
+
+    some_value : NoLeafHasValue setting tree → ⊥
+    some_value none = bounds tree None found.lawful none planned.plan case_plan
 
     -- the bound is the margin, unless some leaf with the bound's value was left open
-    same_bound : (b : Option ℤ) → IsBoundOf parts root tree b → ((value : ℤ) → IsLeafValue parts root tree value → IsAtMost (Some value) (Some planned.margin)) → b ≡ Some planned.margin
-    same_bound None none most_values = absurd (none planned.margin found.best)
+    same_bound : (b : Option ℤ) → IsBoundOf setting tree b → ((value : ℤ) → IsLeafValue setting tree value → IsAtMost (Some value) (Some planned.margin)) →
+        b ≡ Some planned.margin
+    same_bound None none most_values = absurd (some_value none)
     same_bound (Some b) is most_values =
         let below : b ≤ℤ planned.margin = most_values b is.there in
-        let above : planned.margin ≤ℤ b = is.greatest planned.margin found.best in
+        let reached = bounds tree (Some b) found.lawful is planned.plan case_plan in
+        let earned = found.plan.earns in
+        let above : planned.margin ≤ℤ b = subst (λ m. m ≤ℤ b) earned reached in
         let same : b ≡ planned.margin = omega (arith, ints, below, above) in
         ap Some same
 
-    above : (box : List Slot) (leaf : LeafKind) (value : ℤ) → IsLeafOver root (dossier_of Plan (Some planned.margin) bound (Some lines)) box leaf → leaf_value_of parts box leaf ≡ Some value → planned.margin <ℤ value → IsOpen box leaf
-    above box leaf value over valued more =
-        elim (leaf_cases (Some planned) bound found Plan (Some lines) box leaf value over valued) [
-          | inl left ↦ left.wide
-          | inr most ↦ absurd (omega (arith, ints, most, more))
-        ]
-
     unspent : t < budget → bound ≡ Some planned.margin
     unspent less =
-        same_bound bound found.bound (λ value is. elim (value_cases (Some planned) bound found value is) [ inl left ↦ absurd (let all = left.0 in omega arith) | inr most ↦ most ])
+        same_bound bound found.bound
+        (λ value is. elim (value_cases (Some planned) bound found value is) [ inl left ↦ absurd (let all = left.0 in omega arith) | inr most ↦ most ])
 
     decided : points_of root ≤ budget + 1 → bound ≡ Some planned.margin
     decided few =
@@ -214,20 +188,17 @@ module _ (parts : Parts) (n budget : ℕ) (some : 1 ≤ n) (most : n ≤ 40) (no
       readable = readable (Some planned) bound found Plan (Some lines) margin_fits bound_fits (few_lines, numbered);
       accepted = accept;
       claim = claims _ accept;
-      infeasible = (λ is. absurd (let clash : Plan ≡ Infeasible = is in cc), λ none. absurd (none planned.margin found.best));
-      spends = record {
-        within = found.within;
-        inner = found.inner;
-        spent = spent (Some planned) bound found Plan (Some lines);
-        above = above;
-        bound = λ is less. unspent less;
-        none_found = λ is. absurd (let clash : Plan ≡ Open3 = is in cc);
-        decided = λ few. inr (refl, decided few);
-      };
+      infeasible = (λ is. absurd (let clash : Plan ≡ Infeasible = is in cc), λ none. absurd (some_value none));
+      inner = found.inner;
+      budget_kept = found.budget_kept;
+      bound = λ is less. unspent less;
+      none_found = λ is. absurd (let clash : Plan ≡ Open3 = is in cc);
+      decided = λ few. inr (refl, decided few);
     }
 
   -- whichever of these is claimed
-  pub IsSolution-from : (best : Option Planned) (bound : Option ℤ) (head : Head) → IsFound parts n budget (found_of best bound) → IsHeadOf parts best bound head → IfSome head.margin (FitsSigned w64) → IfSome bound (FitsSigned w64) → IsSolution parts n budget (dossier_of head.answer head.margin bound head.plan)
+  pub IsSolution-from : (best : Option Planned) (bound : Option ℤ) (head : Head) → IsFound parts n budget (found_of best bound) → IsHeadOf parts best bound head
+      → IfSome head.margin (FitsSigned w64) → IfSome bound (FitsSigned w64) → IsSolution parts n budget (dossier_of head.answer head.margin bound head.plan)
   IsSolution-from None None head found (answer, margin, plan) margin_fits bound_fits =
       rw (answer, margin, plan) (IsSolution-infeasible found)
   IsSolution-from None (Some bound) head found (answer, margin, plan) margin_fits bound_fits =
@@ -238,7 +209,8 @@ module _ (parts : Parts) (n budget : ℕ) (some : 1 ≤ n) (most : n ≤ 40) (no
 
 -- ---- the lines of a plan
 
-pub AreOpLines-push : (number : ℕ) (lines : List OpLine) (line : OpLine) → AreOpLines number lines → line.number ≡ number + length lines → IsOpLine line → AreOpLines number (lines ++ line ∷ [])
+pub AreOpLines-push : (number : ℕ) (lines : List OpLine) (line : OpLine) → AreOpLines number lines → line.number ≡ number + length lines → IsOpLine line →
+    AreOpLines number (lines ++ line ∷ [])
 AreOpLines-push number [] line are next is = (next ∙ omega arith, is, tt)
 AreOpLines-push number (first ∷ lines) line are next is =
     (are.0, are.1, AreOpLines-push (number + 1) lines line are.2 (next ∙ omega arith) is)
@@ -248,7 +220,9 @@ plan_of-push parts [] line = refl
 plan_of-push parts (first ∷ lines) line = ap (λ steps. timed_of parts first ∷ steps) (plan_of-push parts lines line)
 
 -- the operations of a plan are those of the plant, and few
-pub steps_known : (parts : Parts) (n : ℕ) (best : Option Planned) → ((plan : List Timed) → IsLegal parts plan → All (IsInRange parts) plan) → n ≤ 40 → IfSome best (λ planned. IsPlanOf parts n planned.margin planned.steps) → IfSome best (λ planned. All (λ t. t.op < op_count_of parts) planned.steps × (length planned.steps ≤ 40))
+pub steps_known : (parts : Parts) (n : ℕ) (best : Option Planned) → ((plan : List Timed) → IsLegal parts plan → All (IsInRange parts) plan) → n ≤ MOST_SLOTS →
+    IfSome best (λ planned. IsPlanOf parts n planned.margin planned.plan) →
+    IfSome best (λ planned. All (λ t. t.op < op_count_of parts) planned.plan × (length planned.plan ≤ MOST_SLOTS))
 steps_known parts n None ranges few plan = tt
 steps_known parts n (Some planned) ranges few plan =
-    ((λ i t inside. (ranges planned.steps plan.legal i t inside).known), (let short = plan.short in omega arith))
+    ((λ i t inside. (ranges planned.plan plan.legal i t inside).known), (let short = plan.short in omega arith))

@@ -35,16 +35,19 @@ same_bytes : (xs ys : List ℕ) → bytes_eq xs ys ≡ true → xs ≡ ys
 same_bytes xs ys h = (bytes_eq-Decides xs ys).0 h
 
 -- the five words of `solve`
-pub solve_words : (a b c e g : List ℕ) → is_solve a b c e g ≡ true → (a ≡ codes "solve") × (is_file_word b ≡ true) × (c ≡ codes "--slots") × (e ≡ codes "--nodes") × (g ≡ codes "--workers")
+pub solve_words : (a b c e g : List ℕ) → is_solve a b c e g ≡ true → (a ≡ codes "solve") × (is_file_word b ≡ true) × (c ≡ codes "--slots") ×
+    (e ≡ codes "--nodes") × (g ≡ codes "--workers")
 solve_words a b c e g h =
-    let w = both (bytes_eq a (codes "solve") && is_file_word b && bytes_eq c (codes "--slots") && bytes_eq e (codes "--nodes")) (bytes_eq g (codes "--workers")) h in
+    let w = both (bytes_eq a (codes "solve") && is_file_word b && bytes_eq c (codes "--slots") && bytes_eq e (codes "--nodes")) (bytes_eq g (codes "--workers"))
+    h in
     let n = both (bytes_eq a (codes "solve") && is_file_word b && bytes_eq c (codes "--slots")) (bytes_eq e (codes "--nodes")) w.0 in
     let s = both (bytes_eq a (codes "solve") && is_file_word b) (bytes_eq c (codes "--slots")) n.0 in
     let v = both (bytes_eq a (codes "solve")) (is_file_word b) s.0 in
     (same_bytes _ _ v.0, v.1, same_bytes _ _ s.1, same_bytes _ _ n.1, same_bytes _ _ w.1)
 
 -- eight words are the line of what their numbers ask
-pub line_found : (a b c d e f g h : List ℕ) → is_solve a b c e g ≡ true → (asked : Option Ask) → IfSome asked (IsAskOf d f h) → IfSome asked (IsSolveLine (a ∷ b ∷ c ∷ d ∷ e ∷ f ∷ g ∷ h ∷ []))
+pub line_found : (a b c d e f g h : List ℕ) → is_solve a b c e g ≡ true → (asked : Option Ask) → IfSome asked (IsAskOf d f h) →
+    IfSome asked (IsSolveLine (a ∷ b ∷ c ∷ d ∷ e ∷ f ∷ g ∷ h ∷ []))
 line_found a b c d e f g h named None numbers = tt
 line_found a b c d e f g h named (Some ask) numbers =
     let w = solve_words a b c e g named in
@@ -58,7 +61,8 @@ line_found a b c d e f g h named (Some ask) numbers =
     (b, (cc, (w.1, numbers.in_range)))
 
 -- and where no numbers are asked they are no line
-pub line_none : (a b c d e f g h : List ℕ) → (asked : Option Ask) → IfNone asked ((ask : Ask) → IsAskOf d f h ask → ⊥) → IfNone asked ((ask : Ask) → IsSolveLine (a ∷ b ∷ c ∷ d ∷ e ∷ f ∷ g ∷ h ∷ []) ask → ⊥)
+pub line_none : (a b c d e f g h : List ℕ) → (asked : Option Ask) → IfNone asked ((ask : Ask) → IsAskOf d f h ask → ⊥) →
+    IfNone asked ((ask : Ask) → IsSolveLine (a ∷ b ∷ c ∷ d ∷ e ∷ f ∷ g ∷ h ∷ []) ask → ⊥)
 line_none a b c d e f g h (Some ask) nothing = tt
 line_none a b c d e f g h None nothing = λ ask line.
     let words = line.1.0 in
@@ -96,7 +100,8 @@ check_line a b c = (from_test, to_test)
         (rw second line.1.1)
 
 -- the second and the third word of such a line name its files
-pub check_files_named : (words : List (String Global)) (b c : String Global) → b ≡ get_or words 1 b → c ≡ get_or words 2 c → IsCheckLine (map string_bytes words) → IsPlainLine (map string_bytes words) (Check (string_bytes b) (string_bytes c))
+pub check_files_named : (words : List (String Global)) (b c : String Global) → b ≡ get_or words 1 b → c ≡ get_or words 2 c →
+    IsCheckLine (map string_bytes words) → IsPlainLine (map string_bytes words) (Check (string_bytes b) (string_bytes c))
 check_files_named [] b c q r (plant, dossier, line) = let count = ap length line.0 in absurd (omega (arith, count))
 check_files_named (x0 ∷ []) b c q r (plant, dossier, line) = let count = ap length line.0 in absurd (omega (arith, count))
 check_files_named (x0 ∷ x1 ∷ []) b c q r (plant, dossier, line) = let count = ap length line.0 in absurd (omega (arith, count))

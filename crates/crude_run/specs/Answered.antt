@@ -33,7 +33,8 @@ OfRead number Then longer answer = answer ≡ too_long number
 
 -- the answer to that file, which has this name and limit
 abbrev pub OfFile : Files → ℕ → List ℕ → ℕ → (List ℕ → Answer → Type 0) → Answer → Type 0
-OfFile files number name limit Then answer = (read : FileRead) × MayGive files name limit read × OfRead number Then read answer
+OfFile files number name limit Then answer = (read : FileRead) × MayGive files name limit read ×
+    OfRead number Then read answer
 
 -- the answer to the plant file, which every command names first
 abbrev pub OfPlantFile : Files → List ℕ → (Parts → Answer → Type 0) → Answer → Type 0
@@ -42,11 +43,13 @@ OfPlantFile files name Then answer = OfFile files 1 name plant_limit (λ text. O
 -- the answer that a command calls for, by these files
 abbrev pub Serves : Command → Files → Answer → Type 0
 Serves (Solve plant ask) files answer = OfPlantFile files plant (λ parts. Solves parts ask.slots ask.nodes) answer
-Serves (Check plant dossier) files answer = OfPlantFile files plant (λ parts. OfFile files 2 dossier dossier_limit (Checks parts)) answer
+Serves (Check plant dossier) files answer =
+    OfPlantFile files plant (λ parts. OfFile files 2 dossier dossier_limit (Checks parts)) answer
 
 -- the answer that words call for: a refusal where they are no plain line, else that of their command
 abbrev pub CallsFor : List (List ℕ) → Files → Answer → Type 0
-CallsFor words files answer = (AreRefused words × (answer ≡ words_refused)) ⊎ ((command : Command) × IsPlainLine words command × Serves command files answer)
+CallsFor words files answer = (AreRefused words × (answer ≡ words_refused)) ⊎
+    ((command : Command) × IsPlainLine words command × Serves command files answer)
 
 -- what a sink tells that it has taken, and its count of faults, before and after a run
 pub record Outlet : Type 0 where
@@ -58,13 +61,20 @@ pub record Outlet : Type 0 where
 -- the outlet between two states of a sink that tells and counts so
 abbrev pub outlet_between : {Sink : Type 0} → (Sink → Option (List ℕ)) → (Sink → ℕ) → Sink → Sink → Outlet
 outlet_between taken faults before after =
-    record { taken_before = taken before; taken_after = taken after; faults_before = faults before; faults_after = faults after }
+    record {
+      taken_before = taken before;
+      taken_after = taken after;
+      faults_before = faults before;
+      faults_after = faults after;
+    }
 
 -- a run that owed such an answer has ended with this status
 pub record Answered (Owed : Answer → Type 0) (outlet : Outlet) (status : ℕ) : Type 0 where
   -- want of memory: nothing is written
   pub memory : status ≡ status_no_memory → Takes outlet.taken_before outlet.taken_after []
   -- the sink failed, which its count shows: a first part of the answer's text is written
-  pub broken_off : status ≡ status_write_failed → Rose outlet.faults_before outlet.faults_after × ((answer : Answer) × Owed answer × TakesPart outlet.taken_before outlet.taken_after answer.text)
+  pub broken_off : status ≡ status_write_failed → Rose outlet.faults_before outlet.faults_after ×
+      ((answer : Answer) × Owed answer × TakesPart outlet.taken_before outlet.taken_after answer.text)
   -- else the status is that of the answer, and the whole of its text is written
-  pub whole : status ≢ status_no_memory → status ≢ status_write_failed → (answer : Answer) × (answer.status ≡ status) × Owed answer × Takes outlet.taken_before outlet.taken_after answer.text
+  pub whole : status ≢ status_no_memory → status ≢ status_write_failed → (answer : Answer) × (answer.status ≡ status) ×
+      Owed answer × Takes outlet.taken_before outlet.taken_after answer.text

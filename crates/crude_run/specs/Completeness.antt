@@ -4,7 +4,7 @@ use Rattle.outer_edge.specs.Rose.{Rose}
 use Rattle.plant_model.specs.declared.parts.Parts.{Parts}
 use Rattle.plant_text.specs.PlantText.{plant_of}
 use Rattle.slot_box.specs.Boxes.{points_of}
-use Rattle.leaf_value.specs.PlainValue.{root_box_of}
+use Rattle.slot_forms.specs.Cases.{plain, root_box}
 use Rattle.crude_run.specs.declared.words.Ask.{Ask}
 use Rattle.crude_run.specs.declared.words.Command.TheVariants.{Solve, Check}
 use Rattle.crude_run.specs.Numbers.{plant_limit, dossier_limit, status_plan_found, status_infeasible, status_none_found, status_accepted, status_not_accepted, status_no_memory}
@@ -28,19 +28,25 @@ pub record IsPlantAtHand (files : Files) (name : List ℕ) (parts : Parts) : Typ
 abbrev pub NoWriteFailed : Outlet → Type 0
 NoWriteFailed outlet = Rose outlet.faults_before outlet.faults_after → ⊥
 
--- the status is that of a dossier, or memory was wanting; that no plan was found it says only with a budget that cannot single
+-- the status is that of a dossier, or memory was wanting; that no plan was found it says only with a budget that cannot
+-- single
 -- out each point of the root box
 abbrev pub HasDossierStatus : Parts → Ask → ℕ → Type 0
 HasDossierStatus parts ask status =
-    (status ≡ status_plan_found) ⊎ (status ≡ status_infeasible) ⊎ ((status ≡ status_none_found) × (points_of (root_box_of parts ask.slots) ≤ ask.nodes + 1 → ⊥)) ⊎ (status ≡ status_no_memory)
+    (status ≡ status_plan_found) ⊎ (status ≡ status_infeasible)
+    ⊎ ((status ≡ status_none_found) × (points_of (root_box (plain parts ask.slots)) ≤ ask.nodes + 1 → ⊥))
+    ⊎ (status ≡ status_no_memory)
 
 -- the status is that of a verdict, or memory was wanting
 abbrev pub HasVerdictStatus : ℕ → Type 0
 HasVerdictStatus status = (status ≡ status_accepted) ⊎ (status ≡ status_not_accepted) ⊎ (status ≡ status_no_memory)
 
--- a plain line whose files are at hand, the first of them a plant, has been served, unless a write failed or memory was wanting
+-- a plain line whose files are at hand, the first of them a plant, has been served, unless a write failed or memory was
+-- wanting
 pub record IsComplete (words : List (List ℕ)) (files : Files) (outlet : Outlet) (status : ℕ) : Type 0 where
   pub solves : (plant : List ℕ) (ask : Ask) (parts : Parts)
-      → IsPlainLine words (Solve plant ask) → IsPlantAtHand files plant parts → NoWriteFailed outlet → HasDossierStatus parts ask status
+      → IsPlainLine words (Solve plant ask) → IsPlantAtHand files plant parts → NoWriteFailed outlet →
+      HasDossierStatus parts ask status
   pub checks : (plant dossier file : List ℕ) (parts : Parts)
-      → IsPlainLine words (Check plant dossier) → IsPlantAtHand files plant parts → IsAtHand files dossier dossier_limit file → NoWriteFailed outlet → HasVerdictStatus status
+      → IsPlainLine words (Check plant dossier) → IsPlantAtHand files plant parts →
+      IsAtHand files dossier dossier_limit file → NoWriteFailed outlet → HasVerdictStatus status

@@ -11,9 +11,16 @@ pub record Files : Type 0 where
   pub longs_after : List ℕ → ℕ → ℕ
 
 -- the files between two states of a shelf that tells and counts so
-abbrev pub files_between : {Shelf : Type 0} → (Shelf → List ℕ → Option (List ℕ)) → (Shelf → List ℕ → ℕ) → (Shelf → List ℕ → ℕ → ℕ) → Shelf → Shelf → Files
+abbrev pub files_between : {Shelf : Type 0} → (Shelf → List ℕ → Option (List ℕ)) → (Shelf → List ℕ → ℕ) →
+    (Shelf → List ℕ → ℕ → ℕ) → Shelf → Shelf → Files
 files_between told faults longs before after =
-    record { told = told before; faults_before = faults before; faults_after = faults after; longs_before = longs before; longs_after = longs after }
+    record {
+      told = told before;
+      faults_before = faults before;
+      faults_after = faults after;
+      longs_before = longs before;
+      longs_after = longs after;
+    }
 
 -- what reading a file gave, want of memory aside
 pub data FileRead : Type 0 where
@@ -27,4 +34,5 @@ pub data FileRead : Type 0 where
 abbrev pub MayGive : Files → List ℕ → ℕ → FileRead → Type 0
 MayGive files name limit (bytes found) = (length found ≤ limit) × IfSome (files.told name) (λ file. found ≡ file)
 MayGive files name limit failed = Rose (files.faults_before name) (files.faults_after name)
-MayGive files name limit longer = Rose (files.longs_before name limit) (files.longs_after name limit) × IfSome (files.told name) (λ file. limit < length file)
+MayGive files name limit longer = Rose (files.longs_before name limit) (files.longs_after name limit) ×
+    IfSome (files.told name) (λ file. limit < length file)

@@ -9,3 +9,4 @@ pub mod Answered
 pub mod Concluding
 pub mod Stopping
 pub mod Completeness
+pub mod Hidden

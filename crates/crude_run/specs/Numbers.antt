@@ -1,5 +1,6 @@
 -- The numbers that a user sees: with which status a run ends, and how long its files may be.
 use Rattle.std.specs.Prelude.{ℕ}
+use Rattle.limits.specs.declared.TheConstants.{PLANT_FILE_LIMIT, DOSSIER_FILE_LIMIT}
 
 -- ---- statuses
 
@@ -55,8 +56,8 @@ status_write_failed = 74
 
 -- the most bytes of a plant file
 abbrev pub plant_limit : ℕ
-plant_limit = 4194304
+plant_limit = PLANT_FILE_LIMIT
 
 -- the most bytes of a dossier
 abbrev pub dossier_limit : ℕ
-dossier_limit = 1073741824
+dossier_limit = DOSSIER_FILE_LIMIT

@@ -34,7 +34,11 @@ too_long number = one_line status_too_long (codes "too long" ++ 32 ∷ decimal n
 
 -- the dossier is accepted: yes, and below it what it says of plans, its margin and its bound, as it has them
 abbrev pub accepted : Word3 → Option ℤ → Option ℤ → Answer
-accepted answer margin bound = record { status = status_accepted; text = codes "yes" ++ 10 ∷ text_of (claim_lines answer margin bound) }
+accepted answer margin bound = record {
+  status = status_accepted;
+  text = codes "yes" ++ 10
+      ∷ text_of (claim_lines answer margin bound);
+}
 
 -- the dossier is not accepted: no, the number of the first reason, and the line where it stands
 abbrev pub not_accepted : ℕ → ℕ → Answer

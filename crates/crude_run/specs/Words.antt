@@ -1,5 +1,6 @@
 -- The words of a command line, and what a plain line asks for.
 use Rattle.std.specs.Prelude.{◌≡◌, ℕ, ◌≤◌, Bool, not, nat_le, ◌&&◌, ◌==◌, IsTrue, List, [], ◌∷◌, length, slice_index, codes, decimal}
+use Rattle.limits.specs.declared.TheConstants.{MOST_NODES, MOST_SLOTS}
 use Rattle.crude_run.specs.declared.words.Ask.{Ask}
 use Rattle.crude_run.specs.declared.words.Command.{Command}
 use Rattle.crude_run.specs.declared.words.Command.TheVariants.{Solve, Check}
@@ -7,18 +8,19 @@ use Rattle.crude_run.specs.declared.words.Command.TheVariants.{Solve, Check}
 -- the words of a plain line, in their one order and with their one spelling
 abbrev pub line_words : Command → List (List ℕ)
 line_words (Solve plant ask) =
-    codes "solve" ∷ plant ∷ codes "--slots" ∷ decimal ask.slots ∷ codes "--nodes" ∷ decimal ask.nodes ∷ codes "--workers" ∷ decimal ask.workers ∷ []
+    codes "solve" ∷ plant ∷ codes "--slots" ∷ decimal ask.slots ∷ codes "--nodes" ∷ decimal ask.nodes
+    ∷ codes "--workers" ∷ decimal ask.workers ∷ []
 line_words (Check plant dossier) = codes "check" ∷ plant ∷ dossier ∷ []
 
 -- a word that names a file: 1 to 255 bytes, of which the first is no `-` (45)
 abbrev pub is_file_word : List ℕ → Bool
 is_file_word word = nat_le 1 (length word) && nat_le (length word) 255 && not (slice_index word 0 == 45)
 
--- 1 to 40 slots, at most 65,535 inner nodes, and so far one worker
+-- some slots, and no more of them and of inner nodes than there may be; so far one worker
 pub record IsAskInRange (ask : Ask) : Type 0 where
   pub some_slots : 1 ≤ ask.slots
-  pub most_slots : ask.slots ≤ 40
-  pub most_nodes : ask.nodes ≤ 65535
+  pub most_slots : ask.slots ≤ MOST_SLOTS
+  pub most_nodes : ask.nodes ≤ MOST_NODES
   pub workers : ask.workers ≡ 1
 
 -- what a command names is in range

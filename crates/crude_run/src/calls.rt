@@ -2,6 +2,7 @@ ghost use Rattle.std.specs.Prelude.{map, string_bytes};
 ghost use Rattle.crude_run.specs.Files.{files_between};
 ghost use Rattle.crude_run.specs.Answered.{CallsFor, Answered, outlet_between};
 ghost use Rattle.crude_run.specs.Completeness.{IsComplete};
+ghost use Rattle.crude_run.specs.Hidden.{HidesNoFault};
 
 use crate::answer::words_refused;
 use crate::check::check_files;
@@ -24,9 +25,13 @@ pub fn run<H: Shelf, K: Sink, G: Gate>(
     out: &mut K,
     gate: &G,
 ) -> Status
-    ensures answered { Answered (CallsFor (map string_bytes words.now) (files_between H.told H.faults H.longs shelf.old shelf.new))
+    ensures answered { Answered
+        (CallsFor (map string_bytes words.now) (files_between H.told H.faults H.longs shelf.old shelf.new))
         (outlet_between K.taken K.faults out.old out.new) result }
-    ensures complete { IsComplete (map string_bytes words.now) (files_between H.told H.faults H.longs shelf.old shelf.new)
+    ensures complete { IsComplete (map string_bytes words.now)
+        (files_between H.told H.faults H.longs shelf.old shelf.new)
+        (outlet_between K.taken K.faults out.old out.new) result }
+    ensures hidden { HidesNoFault (files_between H.told H.faults H.longs shelf.old shelf.new)
         (outlet_between K.taken K.faults out.old out.new) result }
 {
     decimal_laws();
@@ -41,7 +46,10 @@ fn serve<H: Shelf, K: Sink, G: Gate>(
     out: &mut K,
     gate: &G,
 ) -> Status
-    ensures { Answered (CallsFor (map string_bytes words.now) (files_between H.told H.faults H.longs shelf.old shelf.new))
+    ensures answered { Answered
+        (CallsFor (map string_bytes words.now) (files_between H.told H.faults H.longs shelf.old shelf.new))
+        (outlet_between K.taken K.faults out.old out.new) result }
+    ensures hidden { HidesNoFault (files_between H.told H.faults H.longs shelf.old shelf.new)
         (outlet_between K.taken K.faults out.old out.new) result }
 {
     match read_words(alloc, words) {

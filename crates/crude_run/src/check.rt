@@ -3,14 +3,16 @@ ghost use Rattle.crude_run.specs.declared.words.Command.TheVariants.{Check};
 ghost use Rattle.crude_run.specs.Files.{files_between};
 ghost use Rattle.crude_run.specs.Checking.{Checks};
 ghost use Rattle.crude_run.specs.Answered.{Serves, Answered, outlet_between};
-ghost use Rattle.crude_run.specs.Stopping.{IfDue};
+ghost use Rattle.crude_run.specs.Hidden.{HidesNoFault};
+ghost use Rattle.crude_run.specs.Stopping.{IfDue, ShowsFaults};
 
 use crate::answer::{Answer, accepted, not_accepted};
-use crate::files::{DOSSIER_FILE, DOSSIER_LIMIT};
+use crate::files::DOSSIER_FILE;
 use crate::opening::{Stop, open_file, open_plant};
 use crate::send::finish;
 use crate::status::Status;
 use dossier_check::{Verdict, check};
+use limits::DOSSIER_FILE_LIMIT;
 use outer_edge::{Shelf, Sink};
 use plant_model::Plant;
 use std::alloc::{AllocError, Global};
@@ -23,7 +25,10 @@ pub fn check_files<H: Shelf, K: Sink>(
     shelf: &mut H,
     out: &mut K,
 ) -> Status
-    ensures { Answered (Serves (Check plant.now dossier.now) (files_between H.told H.faults H.longs shelf.old shelf.new))
+    ensures answered { Answered
+        (Serves (Check plant.now dossier.now) (files_between H.told H.faults H.longs shelf.old shelf.new))
+        (outlet_between K.taken K.faults out.old out.new) result }
+    ensures hidden { HidesNoFault (files_between H.told H.faults H.longs shelf.old shelf.new)
         (outlet_between K.taken K.faults out.old out.new) result }
 {
     let outcome = check_both(alloc, plant, dossier, shelf);
@@ -37,10 +42,12 @@ fn check_both<H: Shelf>(
     dossier: &str,
     shelf: &mut H,
 ) -> Result<Answer, Stop>
-    ensures { IfDue result (Serves (Check plant.now dossier.now) (files_between H.told H.faults H.longs shelf.old shelf.new)) }
+    ensures due { IfDue result
+        (Serves (Check plant.now dossier.now) (files_between H.told H.faults H.longs shelf.old shelf.new)) }
+    ensures shown { ShowsFaults (files_between H.told H.faults H.longs shelf.old shelf.new) result }
 {
     let plant = open_plant(alloc, plant, shelf)?;
-    let bytes = open_file(alloc, DOSSIER_FILE, dossier, DOSSIER_LIMIT, shelf)?;
+    let bytes = open_file(alloc, DOSSIER_FILE, dossier, DOSSIER_FILE_LIMIT, shelf)?;
     let answer = check_text(alloc, &plant, &bytes)?;
     Ok(answer)
 }

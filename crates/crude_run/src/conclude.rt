@@ -1,5 +1,6 @@
 ghost use Rattle.std.specs.Prelude.{◌≡◌, ◌<◌, ◌≤◌, length, IfOk, IfSome, All, FitsSigned};
 ghost use Rattle.std.specs.Int.{w64};
+ghost use Rattle.limits.specs.declared.TheConstants.{MOST_NODES, MOST_SLOTS};
 ghost use Rattle.plan_text.specs.OpLine.{IsOpLine};
 ghost use Rattle.plant_model.specs.Parts.{op_count_of};
 ghost use Rattle.dossier_text.specs.Ranges.{AreOpLines};
@@ -12,10 +13,10 @@ use box_search::Found;
 use dossier_check::accepted_claim_laws;
 use dossier_text::{Dossier, Word3};
 use item_lists::{Copies, Items};
-use leaf_value::Planned;
+use leaf_value::leaf_laws;
 use plan_text::{OpLine, OpLines};
 use plant_model::Plant;
-use replay_core::{Timed, legal_plan_laws};
+use replay_core::{Planned, Timed, legal_plan_laws};
 use std::alloc::{AllocError, Global};
 
 /// The line of an operation that the plant has.
@@ -41,7 +42,7 @@ fn op_line(alloc: Global, plant: &Plant, number: u32, t: Timed) -> Result<OpLine
 /// The lines of a plan, numbered from 1.
 fn op_lines(alloc: Global, plant: &Plant, plan: &[Timed]) -> Result<OpLines, AllocError>
     requires known { All (λ t. t.op < op_count_of plant.now) plan.now }
-    requires few { length plan.now ≤ 40 }
+    requires few { length plan.now ≤ MOST_SLOTS }
     ensures plan { IfOk result (λ lines. plan_of plant.now lines ≡ plan.now) }
     ensures form { IfOk result (AreOpLines 1) }
 {
@@ -69,7 +70,8 @@ fn head_of(
     best: Option<Planned>,
     bound: Option<i64>,
 ) -> Result<Head, AllocError>
-    requires { IfSome best (λ planned. All (λ t. t.op < op_count_of plant.now) planned.steps × (length planned.steps ≤ 40)) }
+    requires { IfSome best (λ planned. All (λ t. t.op < op_count_of plant.now) planned.plan ×
+        (length planned.plan ≤ MOST_SLOTS)) }
     ensures claim { IfOk result (IsHeadOf plant.now best bound) }
     ensures margin { IfOk result (λ head. IfSome head.margin (FitsSigned w64)) }
     ensures bound { IfSome bound (FitsSigned w64) }
@@ -78,7 +80,7 @@ fn head_of(
         (Some(planned), _) => Ok(Head {
             answer: Word3::Plan,
             margin: Some(planned.margin),
-            plan: Some(op_lines(alloc, plant, planned.steps.as_slice())?),
+            plan: Some(op_lines(alloc, plant, planned.plan.as_slice())?),
         }),
         (None, None) => Ok(Head {
             answer: Word3::Infeasible,
@@ -102,13 +104,14 @@ pub(crate) fn conclude(
     found: Found,
 ) -> Result<Dossier, AllocError>
     requires some_slots { 1 ≤ slots }
-    requires most_slots { slots ≤ 40 }
-    requires most_nodes { nodes ≤ 65535 }
+    requires most_slots { slots ≤ MOST_SLOTS }
+    requires most_nodes { nodes ≤ MOST_NODES }
     requires found { IsFound plant.now slots nodes found }
     ensures { IfOk result (IsSolution plant.now slots nodes) }
 {
     legal_plan_laws();
     accepted_claim_laws(plant);
+    leaf_laws(plant);
     let Found {
         tickets,
         tree,

@@ -4,8 +4,10 @@
 //! text into a sink. Its contract is the whole promise of the program. Begin with `specs/Answered.antt`:
 //! `Answered` says how a run ends, `CallsFor` what the words call for, and `Serves` what a command
 //! answers by its files. What `solve` owes of a plant is in `specs/Solving.antt`: an accepted dossier,
-//! what it claims, and what it owes to the budget of inner nodes. What `check` owes of a dossier is in
-//! `specs/Checking.antt`. From there the way leads down to plans, boxes and their values. The search itself is `box_search`; here its finding becomes a dossier.
+//! what it claims, and that it keeps the budget of inner nodes (`leaf_value`). What `check` owes of a dossier is in
+//! `specs/Checking.antt`. That no fault of the shelf or the sink stays hidden is in `specs/Hidden.antt`.
+//! From there the way leads down to plans, boxes and their values. The search itself is `box_search`;
+//! here its finding becomes a dossier.
 #![tactic(auto)]
 
 mod answer;
@@ -22,7 +24,6 @@ mod words;
 pub use answer::Answer;
 pub use calls::run;
 pub use check::check_files;
-pub use files::{DOSSIER_LIMIT, PLANT_LIMIT};
 pub use solve::{solve_alone, solve_file_alone};
 pub use status::{
     ACCEPTED, INFEASIBLE, NO_MEMORY, NONE_FOUND, NOT_ACCEPTED, NOT_YET, PLAN_FOUND, PLANT_REFUSED,

@@ -4,10 +4,11 @@ ghost use Rattle.std.specs.Prelude.{◌≡◌, Ok, IfOk};
 ghost use Rattle.plant_text.specs.PlantText.{plant_of};
 ghost use Rattle.crude_run.specs.Files.{files_between, bytes, MayGive};
 ghost use Rattle.crude_run.specs.Answered.{OfPlant, OfFile, OfPlantFile};
-ghost use Rattle.crude_run.specs.Stopping.{IfStopped, NoAnswer, MayGivePlant, IsLater, stop_of};
+ghost use Rattle.crude_run.specs.Stopping.{IfStopped, NoAnswer, MayGivePlant, IsLater, ShowsFaults, stop_of};
 
 use crate::answer::{Answer, not_yet, plant_refused, read_failed, too_long};
-use crate::files::{PLANT_FILE, PLANT_LIMIT};
+use crate::files::PLANT_FILE;
+use limits::PLANT_FILE_LIMIT;
 use outer_edge::{Shelf, ShelfFault};
 use plant_model::Plant;
 use plant_text::{PlantTextFault, read_plant};
@@ -51,9 +52,12 @@ pub(crate) fn open_file<H: Shelf>(
     limit: u64,
     shelf: &mut H,
 ) -> Result<Vec<u8>, Stop>
-    ensures read { IfOk result (λ file. MayGive (files_between H.told H.faults H.longs shelf.old shelf.new) name.now limit (bytes file.items)) }
-    ensures stopped { IfStopped result (OfFile (files_between H.told H.faults H.longs shelf.old shelf.new) number name.now limit NoAnswer) }
+    ensures read { IfOk result (λ file. MayGive (files_between H.told H.faults H.longs shelf.old shelf.new) name.now
+        limit (bytes file.items)) }
+    ensures stopped { IfStopped result
+        (OfFile (files_between H.told H.faults H.longs shelf.old shelf.new) number name.now limit NoAnswer) }
     ensures later { IsLater H.told H.faults H.longs shelf.old shelf.new }
+    ensures shown { ShowsFaults (files_between H.told H.faults H.longs shelf.old shelf.new) result }
 {
     match shelf.read(alloc, name, limit) {
         Ok(bytes) => Ok(bytes),
@@ -81,9 +85,11 @@ fn plant_of_text(alloc: Global, text: &[u8]) -> Result<Plant, Stop>
 /// The plant of the plant file, which every command names first.
 pub(crate) fn open_plant<H: Shelf>(alloc: Global, name: &str, shelf: &mut H) -> Result<Plant, Stop>
     ensures plant { IfOk result (MayGivePlant (files_between H.told H.faults H.longs shelf.old shelf.new) name.now) }
-    ensures stopped { IfStopped result (OfPlantFile (files_between H.told H.faults H.longs shelf.old shelf.new) name.now NoAnswer) }
+    ensures stopped { IfStopped result
+        (OfPlantFile (files_between H.told H.faults H.longs shelf.old shelf.new) name.now NoAnswer) }
     ensures later { IsLater H.told H.faults H.longs shelf.old shelf.new }
+    ensures shown { ShowsFaults (files_between H.told H.faults H.longs shelf.old shelf.new) result }
 {
-    let text = open_file(alloc, PLANT_FILE, name, PLANT_LIMIT, shelf)?;
+    let text = open_file(alloc, PLANT_FILE, name, PLANT_FILE_LIMIT, shelf)?;
     plant_of_text(alloc, &text)
 }

@@ -10,7 +10,8 @@ use outer_edge::{Sink, write_all};
 /// Writes the text of the answer that is due, if there is one, and tells how the run ends.
 pub(crate) fn finish<K: Sink>(outcome: Result<Answer, Stop>, out: &mut K) -> Status
     requires { IfDue outcome (λ due. due.status < NO_MEMORY) }
-    ensures { Answered (IsDue outcome) (outlet_between K.taken K.faults out.old out.new) result }
+    ensures answered { Answered (IsDue outcome) (outlet_between K.taken K.faults out.old out.new) result }
+    ensures cut_off { K.faults out.old < K.faults out.new → result ≡ WRITE_FAILED }
 {
     match outcome {
         Ok(answer) | Err(Stop::Due(answer)) => send(&answer, out),
@@ -21,7 +22,8 @@ pub(crate) fn finish<K: Sink>(outcome: Result<Answer, Stop>, out: &mut K) -> Sta
 /// Writes the text of the answer.
 fn send<K: Sink>(answer: &Answer, out: &mut K) -> Status
     requires { answer.now.status < NO_MEMORY }
-    ensures { Answered (λ due. due ≡ answer.now) (outlet_between K.taken K.faults out.old out.new) result }
+    ensures answered { Answered (λ due. due ≡ answer.now) (outlet_between K.taken K.faults out.old out.new) result }
+    ensures cut_off { K.faults out.old < K.faults out.new → result ≡ WRITE_FAILED }
 {
     match write_all(out, answer.text.as_slice()) {
         Ok(()) => answer.status,

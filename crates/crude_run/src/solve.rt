@@ -1,9 +1,11 @@
 ghost use Rattle.std.specs.Prelude.{◌≡◌, ◌≤◌, IfOk};
+ghost use Rattle.limits.specs.declared.TheConstants.{MOST_NODES, MOST_SLOTS};
 ghost use Rattle.crude_run.specs.declared.words.Ask.{Ask};
 ghost use Rattle.crude_run.specs.Solving.{Solves, status_of};
 ghost use Rattle.crude_run.specs.Files.{files_between};
 ghost use Rattle.crude_run.specs.Answered.{Serves, Answered, outlet_between};
-ghost use Rattle.crude_run.specs.Stopping.{IfDue};
+ghost use Rattle.crude_run.specs.Hidden.{HidesNoFault};
+ghost use Rattle.crude_run.specs.Stopping.{IfDue, ShowsFaults};
 ghost use Rattle.crude_run.specs.declared.words.Command.TheVariants.{Solve};
 
 use crate::answer::Answer;
@@ -29,8 +31,8 @@ pub fn solve_alone<G: Gate>(
     gate: &G,
 ) -> Result<Answer, AllocError>
     requires some_slots { 1 ≤ slots }
-    requires most_slots { slots ≤ 40 }
-    requires most_nodes { nodes ≤ 65535 }
+    requires most_slots { slots ≤ MOST_SLOTS }
+    requires most_nodes { nodes ≤ MOST_NODES }
     ensures { IfOk result (Solves plant.now slots nodes) }
 {
     let found = search_boxes(alloc, plant, slots, nodes, gate)?;
@@ -64,10 +66,12 @@ pub fn solve_file_alone<H: Shelf, K: Sink, G: Gate>(
     gate: &G,
 ) -> Status
     requires some_slots { 1 ≤ slots }
-    requires most_slots { slots ≤ 40 }
-    requires most_nodes { nodes ≤ 65535 }
-    ensures { let ask : Ask = record { slots = slots; nodes = nodes; workers = 1 } in
+    requires most_slots { slots ≤ MOST_SLOTS }
+    requires most_nodes { nodes ≤ MOST_NODES }
+    ensures answered { let ask : Ask = record { slots = slots; nodes = nodes; workers = 1 } in
         Answered (Serves (Solve plant.now ask) (files_between H.told H.faults H.longs shelf.old shelf.new))
+        (outlet_between K.taken K.faults out.old out.new) result }
+    ensures hidden { HidesNoFault (files_between H.told H.faults H.longs shelf.old shelf.new)
         (outlet_between K.taken K.faults out.old out.new) result }
 {
     let outcome = solve_file(alloc, plant, slots, nodes, shelf, gate);
@@ -84,10 +88,11 @@ fn solve_file<H: Shelf, G: Gate>(
     gate: &G,
 ) -> Result<Answer, Stop>
     requires some_slots { 1 ≤ slots }
-    requires most_slots { slots ≤ 40 }
-    requires most_nodes { nodes ≤ 65535 }
-    ensures { let ask : Ask = record { slots = slots; nodes = nodes; workers = 1 } in
+    requires most_slots { slots ≤ MOST_SLOTS }
+    requires most_nodes { nodes ≤ MOST_NODES }
+    ensures due { let ask : Ask = record { slots = slots; nodes = nodes; workers = 1 } in
         IfDue result (Serves (Solve plant.now ask) (files_between H.told H.faults H.longs shelf.old shelf.new)) }
+    ensures shown { ShowsFaults (files_between H.told H.faults H.longs shelf.old shelf.new) result }
 {
     let plant = open_plant(alloc, plant, shelf)?;
     let answer = solve_alone(alloc, &plant, slots, nodes, gate)?;

@@ -3,6 +3,7 @@ ghost use Rattle.crude_run.specs.declared.words.Ask.{Ask};
 ghost use Rattle.crude_run.specs.Words.{is_file_word, IsPlainLine, AreRefused};
 ghost use Rattle.crude_run.specs.WordReading.{is_solve, is_check, IsAskOf, IsSolveLine, IsCheckLine};
 
+use limits::{MOST_NODES, MOST_SLOTS};
 use line_text::{decimal_laws, read_decimal};
 use std::alloc::{AllocError, Global};
 use std::marker::Model;
@@ -178,8 +179,8 @@ fn read_ask(slots: &str, nodes: &str, workers: &str) -> Option<Ask>
     ensures none { IfNone result ((ask : Ask) → IsAskOf slots.now nodes.now workers.now ask → ⊥) }
 {
     let ask = Ask {
-        slots: read_number(slots, 1, 40)?,
-        nodes: read_number(nodes, 0, 65_535)?,
+        slots: read_number(slots, 1, u32::from(MOST_SLOTS))?,
+        nodes: read_number(nodes, 0, MOST_NODES)?,
         workers: read_number(workers, 1, 1)?,
     };
     Some(ask)

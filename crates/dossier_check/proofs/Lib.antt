@@ -1,11 +1,11 @@
-pub mod LeafLaws
-pub mod ClaimLaws
 pub mod SplitTests
 pub mod PlanLaws
 pub mod WalkLaws
 pub mod MeetLaws
 pub mod PlaceLaws
 pub mod PassLaws
+pub mod CutLaws
 pub mod StandLaws
 pub mod GreatestLaws
 pub mod ReasonLaws
+pub mod ClaimLaws

@@ -1,10 +1,9 @@
 -- One node is met.
-use Rattle.std.proofs.Common.{◌≡◌, ℕ, inl, inr, ◌+◌, ◌<◌, Bool, false, ℤ, Option, Some, None, Err, List, [], ◌∷◌, length, get_or, sym, ap, ◌∙◌, subst}
+use Rattle.std.proofs.Common.{◌≡◌, ℕ, inl, inr, ◌+◌, ◌<◌, Bool, false, ℤ, Option, Some, None, Err, List, [], length, get_or, sym, ap, ◌∙◌, subst}
 use Rattle.std.specs.Prelude.{nat_lt, not, ◌&&◌}
 use Rattle.std.proofs.lemmas.Bool.{cases_lt, le-ltb, and_left, eqb-true}
 use Rattle.item_lists.specs.Faults.{first_of, unless}
 use Rattle.item_lists.proofs.FaultLaws.{first_of-front, first_of-back, nil_of_none, holds_of_nil}
-use Rattle.plant_model.specs.declared.parts.Parts.{Parts}
 use Rattle.slot_box.specs.declared.node.Leaf.{Leaf as LeafKind}
 use Rattle.slot_box.specs.declared.node.Leaf.TheVariants.{Point}
 use Rattle.slot_box.specs.declared.node.Node.{Node}
@@ -13,24 +12,25 @@ use Rattle.slot_box.specs.declared.slot.Slot.{Slot}
 use Rattle.slot_box.specs.declared.split.Split.{Split}
 use Rattle.slot_box.specs.Boxes.{points_of}
 use Rattle.slot_box.specs.Splits.{is_lawful}
+use Rattle.leaf_value.specs.Settings.{Setting}
 use Rattle.dossier_check.specs.declared.met.Met.{Met}
-use Rattle.dossier_check.specs.declared.tree.Frame.{Frame}
 use Rattle.dossier_check.specs.declared.verdict.Reason.{Reason}
 use Rattle.dossier_check.specs.declared.verdict.Refusal.{Refusal}
 use Rattle.dossier_check.specs.declared.verdict.Refusal.TheVariants.{First, Memory}
 use Rattle.dossier_check.specs.Earlier.{Holder, is_held, box_of, with_node}
 use Rattle.dossier_check.specs.NodeReasons.{reason, leaf_reasons, inner_reasons, node_reasons, nodes_reasons, node_value}
-use Rattle.dossier_check.specs.Verdicts.{Tests}
-use Rattle.dossier_check.specs.Walks.{Keeps, MeetsInner, IsMet, Meets}
+use Rattle.dossier_check.specs.inside.Tests.{Tests}
+use Rattle.dossier_check.specs.inside.Walks.{Keeps, KeepsWith, MeetsInner, Pass, reasons_at, IsMet, Meets}
 use Rattle.dossier_check.proofs.WalkLaws.{IsWalked, walked_stop}
 
 -- ---- leaves
 
 -- the box of a point against which nothing stands has one point
-pub point_of_none : (cuts line : ℕ) (box : List Slot) (leaf : LeafKind) → first_of (leaf_reasons cuts line box leaf) ≡ None → leaf ≡ Point → points_of box ≡ 1
+pub point_of_none : (setting : Setting) (line : ℕ) (box : List Slot) (leaf : LeafKind) → first_of (leaf_reasons setting line box leaf) ≡ None → leaf ≡ Point →
+    points_of box ≡ 1
 unfolding leaf_reasons
-point_of_none cuts line box leaf none is =
-    let at : first_of (leaf_reasons cuts line box Point) ≡ None = subst (λ l. first_of (leaf_reasons cuts line box l) ≡ None) is none in
+point_of_none setting line box leaf none is =
+    let at : first_of (leaf_reasons setting line box Point) ≡ None = subst (λ l. first_of (leaf_reasons setting line box l) ≡ None) is none in
     eqb-true (points_of box) 1 (holds_of_nil _ (reason 8 line) (nil_of_none _ at))
 
 -- ---- inner nodes
@@ -44,53 +44,64 @@ free_same root t earlier id met ticket keeps =
       | inr more ↦ and_left _ _ (le-ltb ticket t more) ∙ sym (and_left _ _ (le-ltb ticket t more))
     ]
 
-module _ (root : List Slot) (t : ℕ) (earlier : List Holder) (id : ℕ) (met : Met) (ticket line : ℕ) (box : List Slot) (split : Split) (free : Bool) (keeps : Keeps root t earlier id met) (is : free ≡ (nat_lt ticket (length met.held.items) && not (get_or met.held.items ticket false))) where
+module _ (root : List Slot) (t : ℕ) (earlier : List Holder) (id : ℕ) (met : Met) (ticket line : ℕ) (box : List Slot) (split : Split) (free : Bool)
+    (keeps : Keeps root t earlier id met) (is : free ≡ (nat_lt ticket (length met.held.items) && not (get_or met.held.items ticket false))) where
   same : unless free (reason 4 line) ≡ unless (nat_lt ticket t && not (is_held ticket earlier)) (reason 4 line)
   same = ap (λ b. unless b (reason 4 line)) (is ∙ free_same root t earlier id met ticket keeps)
 
   -- the ticket is not free
-  pub ticket_refused : (found : Reason) → first_of (unless free (reason 4 line)) ≡ Some found → first_of (inner_reasons t earlier line box ticket split) ≡ Some found
+  pub ticket_refused : (found : Reason) → first_of (unless free (reason 4 line)) ≡ Some found →
+      first_of (inner_reasons t earlier line box ticket split) ≡ Some found
   unfolding inner_reasons
   ticket_refused found first = first_of-front _ (unless (is_lawful box split) (reason 6 line)) found (ap first_of (sym same) ∙ first)
 
   -- it is, and so what is left is the split
-  after_ticket : first_of (unless free (reason 4 line)) ≡ None → first_of (inner_reasons t earlier line box ticket split) ≡ first_of (unless (is_lawful box split) (reason 6 line))
+  after_ticket : first_of (unless free (reason 4 line)) ≡ None →
+      first_of (inner_reasons t earlier line box ticket split) ≡ first_of (unless (is_lawful box split) (reason 6 line))
   unfolding inner_reasons
   after_ticket none = first_of-back _ (unless (is_lawful box split) (reason 6 line)) (ap first_of (sym same) ∙ none)
 
-  pub split_refused : (kept : Met) (refusal : Refusal) → first_of (unless free (reason 4 line)) ≡ None → Tests {X = List Slot × List Slot} (unless (is_lawful box split) (reason 6 line)) (Err refusal) →
+  pub split_refused : (kept : Met) (refusal : Refusal) → first_of (unless free (reason 4 line)) ≡ None →
+      Tests {X = List Slot × List Slot} (unless (is_lawful box split) (reason 6 line)) (Err refusal) →
       MeetsInner {X = Unit {0}} root t earlier id line box ticket split kept (Err refusal)
   split_refused kept (First found) none first = after_ticket none ∙ first
   split_refused kept Memory none first = tt
 
-  pub split_passed : first_of (unless free (reason 4 line)) ≡ None → first_of (unless (is_lawful box split) (reason 6 line)) ≡ None → first_of (inner_reasons t earlier line box ticket split) ≡ None
+  pub split_passed : first_of (unless free (reason 4 line)) ≡ None → first_of (unless (is_lawful box split) (reason 6 line)) ≡ None →
+      first_of (inner_reasons t earlier line box ticket split) ≡ None
   split_passed none clean = after_ticket none ∙ clean
 
 -- ---- nodes
 
-module _ (parts : Parts) (frame : Frame) (root : List Slot) (earlier : List Holder) (id : ℕ) (kept : Met) (box : List Slot) (ticket : ℕ) (split : Split) (node : Node) (has : box_of root earlier id ≡ Some box) (inner : node ≡ Inner ticket split) where
-  reasons_here : node_reasons frame.nodes frame.cuts earlier (frame.first_line + id) (box_of root earlier id) node ≡ inner_reasons frame.nodes earlier (frame.first_line + id) box ticket split
+module _ (pass : Pass) (earlier : List Holder) (id : ℕ) (kept : Met) (box : List Slot) (ticket : ℕ) (split : Split) (node : Node)
+    (has : box_of pass.root earlier id ≡ Some box)
+    (inner : node ≡ Inner ticket split) where
+  reasons_here : reasons_at pass earlier id node ≡ inner_reasons pass.nodes earlier (pass.first + id) box ticket split
   reasons_here =
-      ap (λ b. node_reasons frame.nodes frame.cuts earlier (frame.first_line + id) b node) has
-      ∙ ap (node_reasons frame.nodes frame.cuts earlier (frame.first_line + id) (Some box)) inner
+      ap (λ b. node_reasons pass.setting pass.nodes earlier (pass.first + id) b node) has
+      ∙ ap (node_reasons pass.setting pass.nodes earlier (pass.first + id) (Some box)) inner
 
-  pub inner_refused : (refusal : Refusal) → MeetsInner {X = Unit {0}} root frame.nodes earlier (id + 1) (frame.first_line + id) box ticket split kept (Err refusal) →
-      Meets parts frame root earlier id node kept (Err refusal)
+  pub inner_refused : (refusal : Refusal) →
+      MeetsInner {X = Unit {0}} pass.root pass.nodes earlier (id + 1) (pass.first + id) box ticket split kept (Err refusal) →
+      Meets pass earlier id node kept (Err refusal)
   inner_refused (First found) first = ap first_of reasons_here ∙ first
   inner_refused Memory first = tt
 
-  pub inner_met : first_of (inner_reasons frame.nodes earlier (frame.first_line + id) box ticket split) ≡ None → Keeps root frame.nodes (record { ticket = ticket; box = box; split = split } ∷ earlier) (id + 1) kept →
-      IsMet parts frame root earlier id node kept None
+  pub inner_met : first_of (inner_reasons pass.nodes earlier (pass.first + id) box ticket split) ≡ None →
+      KeepsWith pass.root pass.nodes earlier (id + 1) box ticket split kept →
+      IsMet pass earlier id node kept None
   inner_met none keeps = record {
     clean = ap first_of reasons_here ∙ none;
-    gives = sym (ap (λ b. node_value parts b node) has ∙ ap (node_value parts (Some box)) inner);
-    keeps = subst (λ holders. Keeps root frame.nodes holders (id + 1) kept) (sym (ap (λ b. with_node earlier b node) has ∙ ap (with_node earlier (Some box)) inner)) keeps;
+    gives = sym (ap (λ b. node_value pass.setting b node) has ∙ ap (node_value pass.setting (Some box)) inner);
+    keeps = subst (λ holders. Keeps pass.root pass.nodes holders (id + 1) kept)
+        (sym (ap (λ b. with_node earlier b node) has ∙ ap (with_node earlier (Some box)) inner)) keeps;
   }
 
 -- ---- the whole tree
 
-pub walk_refused : (parts : Parts) (frame : Frame) (root : List Slot) (tree : List Node) (id : ℕ) (met kept : Met) (best : Option ℤ) (node : Node) (refusal : Refusal) → id < length tree → node ≡ get_or tree id node →
-    (w : IsWalked parts frame root tree id met best) → Meets parts frame root w.earlier id node kept (Err refusal) →
-    Tests {X = Option ℤ} (nodes_reasons frame.nodes frame.cuts frame.first_line root [] 0 tree) (Err refusal)
-walk_refused parts frame root tree id met kept best node (First found) within is w first = walked_stop parts frame root tree id met best node found within is w first
-walk_refused parts frame root tree id met kept best node Memory within is w first = tt
+pub walk_refused : (pass : Pass) (tree : List Node) (id : ℕ) (met kept : Met) (best : Option ℤ) (node : Node) (refusal : Refusal) → id < length tree →
+    node ≡ get_or tree id node →
+    (w : IsWalked pass tree id met best) → Meets pass w.earlier id node kept (Err refusal) →
+    Tests {X = Option ℤ} (nodes_reasons pass.setting pass.nodes pass.first pass.root [] 0 tree) (Err refusal)
+walk_refused pass tree id met kept best node (First found) within is w first = walked_stop pass tree id met best node found within is w first
+walk_refused pass tree id met kept best node Memory within is w first = tt

@@ -7,10 +7,10 @@ use Rattle.slot_box.specs.declared.node.Node.{Node}
 use Rattle.slot_box.specs.declared.node.Node.TheVariants.{Inner, Leaf}
 use Rattle.slot_box.specs.declared.slot.Slot.{Slot}
 use Rattle.slot_box.specs.declared.split.Split.{Split}
+use Rattle.slot_box.specs.Nodes.{IsInner}
 use Rattle.slot_box.specs.Splits.{left_of, right_of}
 use Rattle.slot_box.specs.Trees.{HasBox, root_box, left_part, right_part}
 use Rattle.dossier_check.specs.Earlier.{Holder, holder_of, is_held, part_for, box_of, with_node}
-use Rattle.dossier_check.specs.Nodes.{IsInner}
 
 -- ---- lists and options
 
@@ -62,8 +62,10 @@ part_for-left id holder is = cond-true (id == 2 * holder.ticket + 1) _ _ (eq-eqb
 pub part_for-right : (id : ℕ) (holder : Holder) → id ≡ 2 * holder.ticket + 2 → part_for id holder ≡ right_of holder.box holder.split
 part_for-right id holder is = cond-false (id == 2 * holder.ticket + 1) _ _ (ne_eqb id (2 * holder.ticket + 1) (λ same. omega arith))
 
-pub box_of-child : (root : List Slot) (earlier : List Holder) (id : ℕ) → 0 < id → box_of root earlier id ≡ option_map (part_for id) (holder_of ((id - 1) / 2) earlier)
-box_of-child root earlier id past = cond-false (id == 0) (Some root) (option_map (part_for id) (holder_of ((id - 1) / 2) earlier)) (ne_eqb id 0 (λ same. omega arith))
+pub box_of-child : (root : List Slot) (earlier : List Holder) (id : ℕ) → 0 < id →
+    box_of root earlier id ≡ option_map (part_for id) (holder_of ((id - 1) / 2) earlier)
+box_of-child root earlier id past =
+    cond-false (id == 0) (Some root) (option_map (part_for id) (holder_of ((id - 1) / 2) earlier)) (ne_eqb id 0 (λ same. omega arith))
 
 -- ---- the inner nodes before an id
 
@@ -87,13 +89,16 @@ pub record IsHeld (root : List Slot) (tree : List Node) (id ticket : ℕ) (holde
   pub box : box_at root tree at ≡ Some holder.box
   pub named : holder.ticket ≡ ticket
 
-held_later : (root : List Slot) (tree : List Node) (id ticket : ℕ) (holder : Holder) → IsHeld root tree id ticket holder → IsHeld root tree (suc id) ticket holder
+held_later : (root : List Slot) (tree : List Node) (id ticket : ℕ) (holder : Holder) → IsHeld root tree id ticket holder →
+    IsHeld root tree (suc id) ticket holder
 held_later root tree id ticket holder held =
     let before = held.before in
     record { at = held.at; before = omega arith; node = held.node; box = held.box; named = held.named }
 
-held_step : (root : List Slot) (tree : List Node) (id ticket : ℕ) (holder : Holder) → (holder_of ticket (holders root tree id) ≡ Some holder → IsHeld root tree id ticket holder) →
-    (box : Option (List Slot)) (node : Option Node) → box_at root tree id ≡ box → slice_get tree id ≡ node → holder_of ticket (with_found (holders root tree id) box node) ≡ Some holder → IsHeld root tree (suc id) ticket holder
+held_step : (root : List Slot) (tree : List Node) (id ticket : ℕ) (holder : Holder) →
+    (holder_of ticket (holders root tree id) ≡ Some holder → IsHeld root tree id ticket holder) →
+    (box : Option (List Slot)) (node : Option Node) → box_at root tree id ≡ box → slice_get tree id ≡ node →
+    holder_of ticket (with_found (holders root tree id) box node) ≡ Some holder → IsHeld root tree (suc id) ticket holder
 held_step root tree id ticket holder rec box None has is found = held_later root tree id ticket holder (rec found)
 held_step root tree id ticket holder rec None (Some node) has is found = held_later root tree id ticket holder (rec found)
 held_step root tree id ticket holder rec (Some box) (Some (Leaf leaf)) has is found = held_later root tree id ticket holder (rec found)
@@ -104,11 +109,13 @@ held_step root tree id ticket holder rec (Some box) (Some (Inner t split)) has i
           let same : this ≡ holder = let first = cond-true (t == ticket) (Some this) (holder_of ticket (holders root tree id)) equal in cc in
           let made : IsHeld root tree (suc id) t this = record { at = id; before = omega arith; node = is; box = has; named = refl } in
           subst (IsHeld root tree (suc id) ticket) same (subst (λ k. IsHeld root tree (suc id) k this) (eqb-true t ticket equal) made)
-      | inr unequal ↦ held_later root tree id ticket holder (rec (sym (cond-false (t == ticket) (Some this) (holder_of ticket (holders root tree id)) unequal) ∙ found))
+      | inr unequal ↦ held_later root tree id ticket holder
+          (rec (sym (cond-false (t == ticket) (Some this) (holder_of ticket (holders root tree id)) unequal) ∙ found))
     ]
 
 -- who is found as the holder of a ticket holds it
-pub held_is : (root : List Slot) (tree : List Node) (id ticket : ℕ) (holder : Holder) → holder_of ticket (holders root tree id) ≡ Some holder → IsHeld root tree id ticket holder
+pub held_is : (root : List Slot) (tree : List Node) (id ticket : ℕ) (holder : Holder) → holder_of ticket (holders root tree id) ≡ Some holder →
+    IsHeld root tree id ticket holder
 held_is root tree zero ticket holder found = absurd (cc)
 held_is root tree (suc id) ticket holder found =
     held_step root tree id ticket holder (held_is root tree id ticket holder) (box_at root tree id) (slice_get tree id) refl refl found
@@ -126,7 +133,8 @@ parent_of root tree id box past has =
 
 -- ---- boxes
 
-has_box_within : (root : List Slot) (tree : List Node) (fuel id : ℕ) (box : List Slot) → id < fuel → box_at root tree id ≡ Some box → HasBox root (slice_get tree) id box
+has_box_within : (root : List Slot) (tree : List Node) (fuel id : ℕ) (box : List Slot) → id < fuel → box_at root tree id ≡ Some box →
+    HasBox root (slice_get tree) id box
 has_box_within root tree zero id box less has = absurd (omega arith)
 has_box_within root tree (suc fuel) zero box less has = let same : root ≡ box = cc in subst (HasBox root (slice_get tree) 0) same root_box
 has_box_within root tree (suc fuel) (suc n) box less has =
@@ -140,9 +148,11 @@ has_box_within root tree (suc fuel) (suc n) box less has =
     let whole = has_box_within root tree fuel held.at holder.box (omega arith) held.box in
     elim (child_parity (suc n) past) [
       | inl left ↦ subst (λ k. HasBox root (slice_get tree) k box) (sym left)
-          (subst (HasBox root (slice_get tree) (2 * ((suc n - 1) / 2) + 1)) (sym (part_for-left (suc n) holder (omega arith)) ∙ parent.part) (left_part whole held.node))
+          (subst (HasBox root (slice_get tree) (2 * ((suc n - 1) / 2) + 1)) (sym (part_for-left (suc n) holder (omega arith)) ∙ parent.part)
+          (left_part whole held.node))
       | inr right ↦ subst (λ k. HasBox root (slice_get tree) k box) (sym right)
-          (subst (HasBox root (slice_get tree) (2 * ((suc n - 1) / 2) + 2)) (sym (part_for-right (suc n) holder (omega arith)) ∙ parent.part) (right_part whole held.node))
+          (subst (HasBox root (slice_get tree) (2 * ((suc n - 1) / 2) + 2)) (sym (part_for-right (suc n) holder (omega arith)) ∙ parent.part)
+          (right_part whole held.node))
     ]
 
 -- the box that a node gets is its box in the tree
@@ -151,7 +161,8 @@ has_box root tree id box has = has_box_within root tree (suc id) id box (omega a
 
 -- ---- a ticket that was held stays so
 
-held_stays : (earlier : List Holder) (ticket : ℕ) (box : Option (List Slot)) (node : Option Node) → is_held ticket earlier ≡ true → is_held ticket (with_found earlier box node) ≡ true
+held_stays : (earlier : List Holder) (ticket : ℕ) (box : Option (List Slot)) (node : Option Node) → is_held ticket earlier ≡ true →
+    is_held ticket (with_found earlier box node) ≡ true
 held_stays earlier ticket box None is = is
 held_stays earlier ticket None (Some node) is = is
 held_stays earlier ticket (Some box) (Some (Leaf leaf)) is = is
@@ -161,7 +172,8 @@ held_stays earlier ticket (Some box) (Some (Inner t split)) is =
       | inr unequal ↦ ap is_some (cond-false (t == ticket) (Some (record { ticket = t; box = box; split = split })) (holder_of ticket earlier) unequal) ∙ is
     ]
 
-pub held_after : (root : List Slot) (tree : List Node) (id at ticket : ℕ) (split : Split) (box : List Slot) → at < id → IsInner tree at ticket split → box_at root tree at ≡ Some box → is_held ticket (holders root tree id) ≡ true
+pub held_after : (root : List Slot) (tree : List Node) (id at ticket : ℕ) (split : Split) (box : List Slot) → at < id → IsInner tree at ticket split →
+    box_at root tree at ≡ Some box → is_held ticket (holders root tree id) ≡ true
 held_after root tree zero at ticket split box before is has = absurd (omega arith)
 held_after root tree (suc id) at ticket split box before is has =
     elim (cases_eq at id) [
@@ -170,7 +182,8 @@ held_after root tree (suc id) at ticket split box before is has =
           let there : box_at root tree id ≡ Some box = subst (λ k. box_at root tree k ≡ Some box) same has in
           ap (λ n. is_held ticket (with_found (holders root tree id) (box_at root tree id) n)) here
           ∙ ap (λ b. is_held ticket (with_found (holders root tree id) b (Some (Inner ticket split)))) there
-          ∙ ap is_some (cond-true (ticket == ticket) (Some (record { ticket = ticket; box = box; split = split })) (holder_of ticket (holders root tree id)) (eq-eqb ticket ticket refl))
+          ∙ ap is_some (cond-true (ticket == ticket) (Some (record { ticket = ticket; box = box; split = split })) (holder_of ticket (holders root tree id))
+          (eq-eqb ticket ticket refl))
       | inr other ↦
           let less : at < id = omega arith in
           held_stays (holders root tree id) ticket (box_at root tree id) (slice_get tree id) (held_after root tree id at ticket split box less is has)

@@ -11,10 +11,12 @@ use Rattle.plant_model.specs.declared.details.PlaceInfo.{PlaceInfo}
 use Rattle.plant_model.specs.Parts.{places_of}
 use Rattle.plan_text.specs.declared.op_line.OpLine.{OpLine}
 use Rattle.replay_core.specs.declared.broken.Broken.{Broken}
+use Rattle.replay_core.specs.declared.order.Order.{Order}
+use Rattle.replay_core.specs.declared.order.Order.TheVariants.{ByStart}
 use Rattle.replay_core.specs.declared.timed.Timed.{Timed}
-use Rattle.replay_core.specs.Rules.{is_known, lasts, keeps_window, keeps_volume, meets_rate, starts_in_order, waits_for_others, keeps_vessel_order, leaves_minimum, keeps_maximum, meets_limits, is_emptied, meets_demand, meets_charges}
+use Rattle.replay_core.specs.Rules.{is_known, lasts, keeps_window, keeps_volume, meets_rate, keeps_order, waits_for_others, keeps_vessel_order, leaves_minimum, keeps_maximum, meets_limits, is_emptied, meets_demand, meets_charges}
 use Rattle.replay_core.specs.State.{state_after}
-use Rattle.replay_core.specs.Legal.{broken, own_faults, order_faults, place_faults, op_faults, step_faults_from, step_faults, vessel_faults, demand_faults, unit_faults, end_faults, plan_faults, first_broken}
+use Rattle.replay_core.specs.Legal.{broken, own_faults, order_faults, place_faults, op_faults, step_faults_from, step_faults, vessel_faults, demand_faults, unit_faults, end_faults, faults_at_places, plan_faults, first_broken, first_broken_in}
 use Rattle.dossier_check.specs.declared.verdict.Reason.{Reason}
 use Rattle.dossier_check.specs.Plans.{timed_of, plan_of}
 use Rattle.dossier_check.specs.Reasons.{rule_reason}
@@ -38,14 +40,15 @@ none_of-map f [] none = refl
 none_of-map f (y ∷ xs) none = cc
 
 -- a plan with a broken rule has its reason
-pub broken_reason : (parts : Parts) (plan : List Timed) (broken : Broken) → first_broken parts plan ≡ Some broken → first_of (map rule_reason (plan_faults parts plan)) ≡ Some (rule_reason broken)
-unfolding first_broken
-broken_reason parts plan broken found = first_of-map rule_reason (plan_faults parts plan) broken found
+pub broken_reason : (parts : Parts) (plan : List Timed) (broken : Broken) → first_broken parts plan ≡ Some broken →
+    first_of (map rule_reason (plan_faults parts ByStart plan)) ≡ Some (rule_reason broken)
+unfolding first_broken_in
+broken_reason parts plan broken found = first_of-map rule_reason (plan_faults parts ByStart plan) broken found
 
 -- a legal plan has none
-pub legal_reason : (parts : Parts) (plan : List Timed) → first_broken parts plan ≡ None → first_of (map rule_reason (plan_faults parts plan)) ≡ None
-unfolding first_broken
-legal_reason parts plan none = none_of-map rule_reason (plan_faults parts plan) none
+pub legal_reason : (parts : Parts) (plan : List Timed) → first_broken parts plan ≡ None → first_of (map rule_reason (plan_faults parts ByStart plan)) ≡ None
+unfolding first_broken_in
+legal_reason parts plan none = none_of-map rule_reason (plan_faults parts ByStart plan) none
 
 pub ruleset plan_reason = (first_of-front, first_of-back, broken_reason, legal_reason)
 
@@ -71,7 +74,8 @@ tested : (most : ℕ) (test : Bool) (fault : Broken) → HasLine most fault → 
 tested most true fault is = record { each = tt }
 tested most false fault is = record { each = (is, tt) }
 
-lines_of : {X : Type 0} (most : ℕ) (faults : ℕ → X → List Broken) → ((i : ℕ) (x : X) → HaveLines most (faults i x)) → (index : ℕ) (xs : List X) → HaveLines most (each_from faults index xs)
+lines_of : {X : Type 0} (most : ℕ) (faults : ℕ → X → List Broken) → ((i : ℕ) (x : X) → HaveLines most (faults i x)) → (index : ℕ) (xs : List X) →
+    HaveLines most (each_from faults index xs)
 lines_of most faults all index [] = record { each = tt }
 lines_of most faults all index (x ∷ xs) = joined most (faults index x) (each_from faults (index + 1) xs) (all index x) (lines_of most faults all (index + 1) xs)
 
@@ -90,52 +94,64 @@ late most test rule at high = tested most test (broken rule at) (λ few. absurd 
 own_lines : (most : ℕ) (parts : Parts) (t : Timed) (at : ℕ) → at ≤ most → HaveLines most (own_faults parts t at)
 unfolding own_faults
 own_lines most parts t at within =
-    joined most _ _ (joined most _ _ (joined most _ _ (joined most _ _ (early most (is_known parts t) 1 at within) (early most (lasts t) 2 at within)) (early most (keeps_window parts t) 3 at within)) (early most (keeps_volume parts t) 4 at within)) (early most (meets_rate parts t) 5 at within)
+    joined most _ _ (joined most _ _
+    (joined most _ _ (joined most _ _ (early most (is_known parts t) 1 at within) (early most (lasts t) 2 at within))
+    (early most (keeps_window parts t) 3 at within)) (early most (keeps_volume parts t) 4 at within)) (early most (meets_rate parts t) 5 at within)
 
-order_lines : (most : ℕ) (before : List Timed) (t : Timed) (at : ℕ) → at ≤ most → HaveLines most (order_faults before t at)
+order_lines : (most : ℕ) (parts : Parts) (order : Order) (before : List Timed) (t : Timed) (at : ℕ) → at ≤ most →
+    HaveLines most (order_faults parts order before t at)
 unfolding order_faults
-order_lines most before t at within = early most (starts_in_order before t) 6 at within
+order_lines most parts order before t at within = early most (keeps_order parts order before t) 6 at within
 
 place_lines : (most : ℕ) (parts : Parts) (before : List Timed) (t : Timed) (at : ℕ) → at ≤ most → HaveLines most (place_faults parts before t at)
 unfolding place_faults
 place_lines most parts before t at within =
-    joined most _ _ (joined most _ _ (joined most _ _ (joined most _ _ (early most (waits_for_others parts before t) 7 at within) (early most (keeps_vessel_order parts before t) 8 at within)) (early most (leaves_minimum parts (state_after parts before) t) 9 at within)) (early most (keeps_maximum parts (state_after parts before) t) 10 at within)) (early most (meets_limits parts (state_after parts before) t) 11 at within)
+    joined most _ _ (joined most _ _
+    (joined most _ _ (joined most _ _ (early most (waits_for_others parts before t) 7 at within) (early most (keeps_vessel_order parts before t) 8 at within))
+    (early most (leaves_minimum parts (state_after parts before) t) 9 at within)) (early most
+    (keeps_maximum parts (state_after parts before) t) 10 at within)) (early most (meets_limits parts (state_after parts before) t) 11 at within)
 
-op_lines : (most : ℕ) (parts : Parts) (before : List Timed) (t : Timed) (at : ℕ) → at ≤ most → HaveLines most (op_faults parts before t at)
+op_lines : (most : ℕ) (parts : Parts) (order : Order) (before : List Timed) (t : Timed) (at : ℕ) → at ≤ most →
+    HaveLines most (op_faults parts order before t at)
 unfolding op_faults
-op_lines most parts before t at within =
-    joined most _ _ (joined most _ _ (own_lines most parts t at within) (order_lines most before t at within)) (place_lines most parts before t at within)
+op_lines most parts order before t at within =
+    joined most _ _ (joined most _ _ (own_lines most parts t at within) (order_lines most parts order before t at within))
+    (place_lines most parts before t at within)
 
-step_lines : (most : ℕ) (parts : Parts) (before later : List Timed) → length before + length later ≤ most → HaveLines most (step_faults_from parts before later)
-step_lines most parts before [] within = record { each = tt }
-step_lines most parts before (t ∷ later) within =
-    joined most (op_faults parts before t (length before + 1)) (step_faults_from parts (before ++ t ∷ []) later)
-    (op_lines most parts before t (length before + 1) (omega arith))
-    (step_lines most parts (before ++ t ∷ []) later (omega (arith, length-append before (t ∷ []))))
+step_lines : (most : ℕ) (parts : Parts) (order : Order) (before later : List Timed) → length before + length later ≤ most →
+    HaveLines most (step_faults_from parts order before later)
+step_lines most parts order before [] within = record { each = tt }
+step_lines most parts order before (t ∷ later) within =
+    joined most (op_faults parts order before t (length before + 1)) (step_faults_from parts order (before ++ t ∷ []) later)
+    (op_lines most parts order before t (length before + 1) (omega arith))
+    (step_lines most parts order (before ++ t ∷ []) later (omega (arith, length-append before (t ∷ []))))
+
+places_lines : (most : ℕ) (parts : Parts) (rule : ℕ) (holds : ℕ → PlaceInfo → Bool) → 12 ≤ rule → HaveLines most (faults_at_places parts rule holds)
+places_lines most parts rule holds high =
+    lines_of most (λ p (place : PlaceInfo). unless (holds p place) (broken rule p)) (λ p (place : PlaceInfo). late most (holds p place) rule p high) 0
+    (places_of parts)
 
 vessel_lines : (most : ℕ) (parts : Parts) (plan : List Timed) → HaveLines most (vessel_faults parts plan)
 unfolding vessel_faults
-vessel_lines most parts plan =
-    lines_of most (λ p (place : PlaceInfo). unless (is_emptied (state_after parts plan) p place) (broken 12 p)) (λ p (place : PlaceInfo). late most (is_emptied (state_after parts plan) p place) 12 p (omega arith)) 0 (places_of parts)
+vessel_lines most parts plan = places_lines most parts 12 (is_emptied (state_after parts plan)) (omega arith)
 
 demand_lines : (most : ℕ) (parts : Parts) (plan : List Timed) → HaveLines most (demand_faults parts plan)
 unfolding demand_faults
-demand_lines most parts plan =
-    lines_of most (λ p (place : PlaceInfo). unless (meets_demand parts plan p place) (broken 13 p)) (λ p (place : PlaceInfo). late most (meets_demand parts plan p place) 13 p (omega arith)) 0 (places_of parts)
+demand_lines most parts plan = places_lines most parts 13 (meets_demand parts plan) (omega arith)
 
 unit_lines : (most : ℕ) (parts : Parts) (plan : List Timed) → HaveLines most (unit_faults parts plan)
 unfolding unit_faults
-unit_lines most parts plan =
-    lines_of most (λ p (place : PlaceInfo). unless (meets_charges parts plan p place) (broken 14 p)) (λ p (place : PlaceInfo). late most (meets_charges parts plan p place) 14 p (omega arith)) 0 (places_of parts)
+unit_lines most parts plan = places_lines most parts 14 (meets_charges parts plan) (omega arith)
 
 end_lines : (most : ℕ) (parts : Parts) (plan : List Timed) → HaveLines most (end_faults parts plan)
 unfolding end_faults
 end_lines most parts plan = joined most _ _ (joined most _ _ (vessel_lines most parts plan) (demand_lines most parts plan)) (unit_lines most parts plan)
 
-plan_lines : (most : ℕ) (parts : Parts) (plan : List Timed) → length plan ≤ most → HaveLines most (plan_faults parts plan)
+plan_lines : (most : ℕ) (parts : Parts) (plan : List Timed) → length plan ≤ most → HaveLines most (plan_faults parts ByStart plan)
 unfolding plan_faults step_faults
-plan_lines most parts plan within = joined most _ _ (step_lines most parts [] plan (omega arith)) (end_lines most parts plan)
+plan_lines most parts plan within = joined most _ _ (step_lines most parts ByStart [] plan (omega arith)) (end_lines most parts plan)
 
-pub broken_line : (most : ℕ) (parts : Parts) (plan : List Timed) (broken : Broken) → length plan ≤ most → first_broken parts plan ≡ Some broken → broken.rule ≤ 11 → broken.at ≤ most
-unfolding first_broken
-broken_line most parts plan broken within found = found_line most (plan_faults parts plan) broken (plan_lines most parts plan within) found
+pub broken_line : (most : ℕ) (parts : Parts) (plan : List Timed) (broken : Broken) → length plan ≤ most → first_broken parts plan ≡ Some broken →
+    broken.rule ≤ 11 → broken.at ≤ most
+unfolding first_broken_in
+broken_line most parts plan broken within found = found_line most (plan_faults parts ByStart plan) broken (plan_lines most parts plan within) found

@@ -24,7 +24,8 @@ is_held ticket earlier = is_some (holder_of ticket earlier)
 
 -- what the holder of ticket T leaves to a child: the left part to node 2T + 1, the right part to node 2T + 2
 abbrev pub part_for : ℕ → Holder → List Slot
-part_for id holder = if id == 2 * holder.ticket + 1 then left_of holder.box holder.split else right_of holder.box holder.split
+part_for id holder =
+    if id == 2 * holder.ticket + 1 then left_of holder.box holder.split else right_of holder.box holder.split
 
 -- the box of a node: node 0 has the root box, any other its part of the box of its parent, where that was met
 abbrev pub box_of : List Slot → List Holder → ℕ → Option (List Slot)

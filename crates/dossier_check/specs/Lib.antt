@@ -1,9 +1,9 @@
 pub mod Plans
-pub mod Nodes
+pub mod Frames
 pub mod Accepted
 pub mod Claims
 pub mod Earlier
 pub mod NodeReasons
 pub mod Reasons
-pub mod Walks
 pub mod Verdicts
+pub mod inside

@@ -7,7 +7,8 @@ use Rattle.replay_core.specs.declared.timed.Timed.{Timed}
 
 -- the operation of a line; a name that the plant has not reads as operation 255, which no plant has
 abbrev pub timed_of : Parts → OpLine → Timed
-timed_of parts line = record { op = op_by_name_of parts line.name; start = line.start; end = line.end; volume = line.volume }
+timed_of parts line =
+    record { op = op_by_name_of parts line.name; start = line.start; end = line.end; volume = line.volume }
 
 -- the operations of the lines of a plan
 abbrev pub plan_of : Parts → List OpLine → List Timed

@@ -1,14 +1,11 @@
 -- What is answered of bytes: yes with what the dossier claims, or the first reason for which it is not accepted.
-use Rattle.std.specs.Prelude.{◌≡◌, ℕ, ◌↔◌, List, [], Some, None, Result, Ok, Err, ⊤}
+use Rattle.std.specs.Prelude.{◌≡◌, ℕ, ◌↔◌, List, [], Some, ⊤}
 use Rattle.item_lists.specs.Faults.{first_of}
 use Rattle.plant_model.specs.declared.parts.Parts.{Parts}
 use Rattle.dossier_text.specs.declared.dossier.Dossier.{Dossier}
 use Rattle.dossier_text.specs.Ranges.{IsReadable}
 use Rattle.dossier_text.specs.Text.{dossier_bytes}
 use Rattle.dossier_check.specs.declared.verdict.Claim.{Claim}
-use Rattle.dossier_check.specs.declared.verdict.Reason.{Reason}
-use Rattle.dossier_check.specs.declared.verdict.Refusal.{Refusal}
-use Rattle.dossier_check.specs.declared.verdict.Refusal.TheVariants.{First, Memory}
 use Rattle.dossier_check.specs.declared.verdict.Verdict.{Verdict}
 use Rattle.dossier_check.specs.declared.verdict.Verdict.TheVariants.{Yes, No}
 use Rattle.dossier_check.specs.Accepted.{IsAccepted}
@@ -30,14 +27,11 @@ abbrev pub IsVerdict : Parts → List ℕ → Verdict → Type 0
 IsVerdict parts bytes (Yes claim) = IsAcceptedText parts bytes claim
 IsVerdict parts bytes (No number line) = first_of (reasons_of parts bytes) ≡ Some (reason number line)
 
--- likewise on a dossier that was read
-abbrev pub IsVerdictOn : Parts → Dossier → Verdict → Type 0
-IsVerdictOn parts dossier (Yes claim) = (dossier_reasons parts dossier ≡ []) × (claim ≡ claim_of parts dossier)
-IsVerdictOn parts dossier (No number line) = first_of (dossier_reasons parts dossier) ≡ Some (reason number line)
-
 -- the text of an accepted dossier is given yes
 abbrev pub IsYesOfAccepted : Parts → List ℕ → Verdict → Type 0
-IsYesOfAccepted parts bytes verdict = (dossier : Dossier) → IsReadable dossier → bytes ≡ dossier_bytes dossier → IsAccepted parts dossier → verdict ≡ Yes (claim_of parts dossier)
+IsYesOfAccepted parts bytes verdict =
+    (dossier : Dossier) → IsReadable dossier → bytes ≡ dossier_bytes dossier → IsAccepted parts dossier
+    → verdict ≡ Yes (claim_of parts dossier)
 
 -- a yes claims only what is true of the plant, in the words of legal plans and margins alone, whoever wrote the bytes
 abbrev pub ClaimsTruth : Parts → Verdict → Type 0
@@ -46,10 +40,5 @@ ClaimsTruth parts (No number line) = ⊤
 
 -- nothing stands against a dossier that can be read exactly where it is accepted
 abbrev pub NothingStandsAgainstAccepted : Parts → Type 0
-NothingStandsAgainstAccepted parts = (dossier : Dossier) → IsReadable dossier → (dossier_reasons parts dossier ≡ []) ↔ IsAccepted parts dossier
-
--- what a test answers: all is well where none of the reasons stands, or the first that stands, or memory ran out
-abbrev pub Tests : {X : Type 0} → List Reason → Result X Refusal → Type 0
-Tests reasons (Ok x) = first_of reasons ≡ None
-Tests reasons (Err (First found)) = first_of reasons ≡ Some found
-Tests reasons (Err Memory) = ⊤
+NothingStandsAgainstAccepted parts =
+    (dossier : Dossier) → IsReadable dossier → (dossier_reasons parts dossier ≡ []) ↔ IsAccepted parts dossier

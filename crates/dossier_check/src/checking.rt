@@ -1,26 +1,30 @@
 ghost use Rattle.std.specs.Prelude.{◌≡◌, ◌+◌, ◌≤◌, length, IfOk, OnOk};
 ghost use Rattle.std.specs.Result.{result_err};
 ghost use Rattle.item_lists.specs.Faults.{first_of};
+ghost use Rattle.limits.specs.declared.TheConstants.{MOST_SLOTS};
 ghost use Rattle.dossier_text.specs.Ranges.{IsReadable};
 ghost use Rattle.dossier_text.specs.Reading.{plan_length};
 ghost use Rattle.dossier_check.specs.Claims.{claim_of};
+ghost use Rattle.dossier_check.specs.Frames.{is_lawful_cut};
 ghost use Rattle.dossier_check.specs.Reasons.{slot_reasons, cut_reasons, first_cut_line, first_node_line, is_same, fits_answer, claim_reasons, dossier_reasons};
-ghost use Rattle.dossier_check.specs.Verdicts.{Tests, IsVerdict, IsVerdictOn, IsYesOfAccepted, ClaimsTruth};
+ghost use Rattle.dossier_check.specs.Verdicts.{IsVerdict, IsYesOfAccepted, ClaimsTruth};
+ghost use Rattle.dossier_check.specs.inside.Tests.{Tests, IsVerdictOn};
 
 use crate::laws::{accepted_claim_laws, reason_laws};
 use crate::plan::check_plan;
 use crate::reasons::{ANSWER, BOUND, FORM, INVALID_CUT, SLOTS, TOO_MANY};
 use crate::tree::check_tree;
 use crate::verdict::{Claim, Reason, Refusal, Verdict};
-use dossier_text::{Dossier, DossierFault, Word3, read_dossier};
+use dossier_text::{CutLine, Dossier, DossierFault, Word3, read_dossier};
 use item_lists::expect;
+use limits::MOST_SLOTS;
 use plan_text::OpLines;
 use plant_model::Plant;
 use std::alloc::{AllocError, Global};
 
 /// How many lines a plan has.
 fn plan_length(plan: &Option<OpLines>) -> u32
-    requires { plan_length plan.now ≤ 40 }
+    requires { plan_length plan.now ≤ MOST_SLOTS }
     ensures { result ≡ plan_length plan.now }
 {
     match plan {
@@ -34,33 +38,43 @@ fn plan_length(plan: &Option<OpLines>) -> u32
 fn check_slots(dossier: &Dossier) -> Result<(), Reason>
     ensures reasons { result_err result ≡ first_of (slot_reasons dossier.now) }
     ensures some { OnOk result (1 ≤ dossier.now.slots) }
-    ensures most { OnOk result (dossier.now.slots ≤ 40) }
+    ensures most { OnOk result (dossier.now.slots ≤ MOST_SLOTS) }
 {
     expect(
-        1 <= dossier.slots && dossier.slots <= 40,
+        1 <= dossier.slots && dossier.slots <= u32::from(MOST_SLOTS),
         Reason::at(SLOTS, 3),
     )
 }
 
-/// Tests the cuts, the first of which stands in this line. So far none is valid.
-#[tactic(auto, unfolding(crate::specs::Reasons::cut_reasons))]
-fn check_cuts(dossier: &Dossier, line: u32) -> Result<(), Reason>
-    requires { line ≡ first_cut_line dossier.now }
-    ensures { result_err result ≡ first_of (cut_reasons dossier.now) }
+/// Whether entries may name the cut.
+fn is_lawful_cut(plant: &Plant, cut: &CutLine) -> bool
+    ensures { result ≡ is_lawful_cut plant.now cut.now }
 {
-    match dossier.cuts.as_slice().first() {
-        None => Ok(()),
-        Some(_) => Err(Reason::at(INVALID_CUT, line)),
+    // so far no cut is shown to be lawful
+    false
+}
+
+/// Tests the cuts, the first of which stands in this line.
+#[tactic(auto, unfolding(crate::specs::Reasons::cut_reasons))]
+fn check_cuts(plant: &Plant, dossier: &Dossier, line: u32) -> Result<(), Reason>
+    requires line { line ≡ first_cut_line dossier.now }
+    requires readable { IsReadable dossier.now }
+    ensures { result_err result ≡ first_of (cut_reasons plant.now dossier.now) }
+{
+    for (index, cut) in dossier.cuts.as_slice().iter().enumerate() {
+        let holds = is_lawful_cut(plant, cut);
+        expect(holds, Reason::at(INVALID_CUT, line + index as u32))?;
     }
+    Ok(())
 }
 
 /// Whether a number, or none, is given where it should.
-fn is_same(given: Option<i64>, wanted: Option<i64>) -> bool
+fn is_same(given: Option<i64>, wanted: Option<i128>) -> bool
     ensures { result ≡ is_same given wanted }
 {
     match (given, wanted) {
         (None, None) => true,
-        (Some(given), Some(wanted)) => given == wanted,
+        (Some(given), Some(wanted)) => i128::from(given) == wanted,
         (None, Some(_)) | (Some(_), None) => false,
     }
 }
@@ -79,7 +93,7 @@ fn fits_answer(dossier: &Dossier) -> bool
 
 /// Tests the bound against the greatest value of a leaf, and then the answer.
 #[tactic(auto, using(item_lists::proofs::FaultLaws::first_fault), unfolding(crate::specs::Reasons::claim_reasons))]
-fn check_answer(dossier: &Dossier, greatest: Option<i64>) -> Result<(), Reason>
+fn check_answer(dossier: &Dossier, greatest: Option<i128>) -> Result<(), Reason>
     ensures { result_err result ≡ first_of (claim_reasons dossier.now greatest) }
 {
     expect(is_same(dossier.bound, greatest), Reason::at(BOUND, 7))?;
@@ -95,7 +109,7 @@ fn check_dossier(alloc: Global, plant: &Plant, dossier: &Dossier) -> Result<Clai
 {
     check_slots(dossier)?;
     let line = 10 + plan_length(&dossier.plan);
-    check_cuts(dossier, line)?;
+    check_cuts(plant, dossier, line)?;
     let line = line + dossier.cuts.as_slice().len() as u32;
     let greatest = check_tree(alloc, plant, dossier, line)?;
     check_answer(dossier, greatest)?;

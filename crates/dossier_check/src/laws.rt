@@ -1,9 +1,10 @@
 ghost use Rattle.dossier_check.specs.Claims.{AcceptedClaimsAreTrue};
 ghost use Rattle.dossier_check.specs.Verdicts.{NothingStandsAgainstAccepted};
 
-use leaf_value::form_laws;
+use leaf_value::leaf_laws;
 use plant_model::Plant;
-use slot_box::{box_laws, split_laws, tree_laws};
+use slot_box::{split_laws, tree_laws};
+use slot_forms::form_laws;
 
 /// What is so of every dossier that is accepted for the plant, for whoever reasons about dossiers: a
 /// call does nothing and brings the law.
@@ -11,9 +12,7 @@ pub fn accepted_claim_laws(plant: &Plant)
     ensures { AcceptedClaimsAreTrue plant.now }
 {
     form_laws(plant);
-    box_laws();
-    split_laws();
-    tree_laws();
+    leaf_laws(plant);
 }
 
 /// What it means that nothing stands against a dossier: a call does nothing and brings the law.
@@ -22,4 +21,5 @@ pub fn reason_laws(plant: &Plant)
 {
     form_laws(plant);
     split_laws();
+    tree_laws();
 }

@@ -2,11 +2,12 @@
 //! are still to come.
 
 ghost use Rattle.std.specs.Prelude.{◌≡◌, ℕ, ◌+◌, ◌*◌, ◌<◌, ◌≤◌, nat_lt, not, ◌&&◌, false, true, List, [], ◌∷◌, Some, None, length, slice_index_or, slice_set, replicate, IfOk};
+ghost use Rattle.limits.specs.declared.TheConstants.{MOST_NODES};
 ghost use Rattle.slot_box.specs.declared.slot.Slot.{Slot};
 ghost use Rattle.slot_box.specs.declared.split.Split.{Split};
 ghost use Rattle.slot_box.specs.Splits.{left_of, right_of};
 ghost use Rattle.dossier_check.specs.Earlier.{Holder};
-ghost use Rattle.dossier_check.specs.Walks.{Keeps};
+ghost use Rattle.dossier_check.specs.inside.Walks.{Keeps, KeepsWith};
 
 use slot_box::SlotBox;
 use std::alloc::{AllocError, Global};
@@ -39,7 +40,7 @@ fn waiting_with(
 impl Met {
     /// Before any node was met: t tickets, none of them held, and the root box for node 0.
     pub(crate) fn none(alloc: Global, t: u32, root: SlotBox) -> Result<Met, AllocError>
-        requires { t ≤ 65535 }
+        requires { t ≤ MOST_NODES }
         ensures { IfOk result (Keeps root t [] 0) }
     {
         Ok(Met {
@@ -54,14 +55,16 @@ impl Met {
         ensures value { result ≡ slice_index_or self.old.waiting.items id None }
         ensures waiting { self.new.waiting.items ≡ slice_set self.old.waiting.items id None }
         ensures held { self.new.held.items ≡ self.old.held.items }
-        ensures keeps { (root : List Slot) (t : ℕ) (earlier : List Holder) → Keeps root t earlier id self.old → Keeps root t earlier (id + 1) self.new }
+        ensures keeps { (root : List Slot) (t : ℕ) (earlier : List Holder) → Keeps root t earlier id self.old
+            → Keeps root t earlier (id + 1) self.new }
     {
         self.waiting[id as usize].take()
     }
 
     /// Whether the ticket is one of those that there are, and no node holds it yet.
     pub(crate) fn is_free(&self, ticket: u32) -> bool
-        ensures { result ≡ (nat_lt ticket (length self.now.held.items) && not (slice_index_or self.now.held.items ticket false)) }
+        ensures { result ≡ (nat_lt ticket (length self.now.held.items)
+            && not (slice_index_or self.now.held.items ticket false)) }
     {
         (ticket as usize) < self.held.len() && !self.held[ticket as usize]
     }
@@ -70,10 +73,14 @@ impl Met {
     pub(crate) fn hold(&mut self, ticket: u32, left: SlotBox, right: SlotBox)
         requires ticket { ticket < length self.old.held.items }
         requires nodes { length self.old.waiting.items ≡ 2 * length self.old.held.items + 1 }
-        requires few { length self.old.held.items ≤ 65535 }
+        requires few { length self.old.held.items ≤ MOST_NODES }
         ensures held { self.new.held.items ≡ slice_set self.old.held.items ticket true }
-        ensures waiting { self.new.waiting.items ≡ slice_set (slice_set self.old.waiting.items (2 * ticket + 1) (Some left)) (2 * ticket + 2) (Some right) }
-        ensures keeps { (root box : List Slot) (earlier : List Holder) (split : Split) (id : ℕ) → left ≡ left_of box split → right ≡ right_of box split → Keeps root (length self.old.held.items) earlier id self.old → Keeps root (length self.old.held.items) (record { ticket = ticket; box = box; split = split } ∷ earlier) id self.new }
+        ensures waiting { self.new.waiting.items
+            ≡ slice_set (slice_set self.old.waiting.items (2 * ticket + 1) (Some left)) (2 * ticket + 2) (Some right) }
+        ensures keeps { let t = length self.old.held.items in
+            (root box : List Slot) (earlier : List Holder) (split : Split) (id : ℕ)
+            → left ≡ left_of box split → right ≡ right_of box split → Keeps root t earlier id self.old
+            → KeepsWith root t earlier id box ticket split self.new }
     {
         self.held[ticket as usize] = true;
         self.waiting[2 * ticket as usize + 1] = Some(left);

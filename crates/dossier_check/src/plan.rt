@@ -3,10 +3,11 @@
 ghost use Rattle.std.specs.Prelude.{◌≡◌, ◌+◌, ◌≤◌, ◌++◌, length, option_map, IfOk, Some};
 ghost use Rattle.std.specs.Result.{result_err};
 ghost use Rattle.item_lists.specs.Faults.{first_of};
+ghost use Rattle.limits.specs.declared.TheConstants.{MOST_SLOTS, MOST_STEPS};
 ghost use Rattle.replay_core.specs.Margin.{margin_of};
 ghost use Rattle.dossier_check.specs.Plans.{timed_of, plan_of};
 ghost use Rattle.dossier_check.specs.Reasons.{rule_reason, plan_reasons, margin_reasons, given_reasons};
-ghost use Rattle.dossier_check.specs.Verdicts.{Tests};
+ghost use Rattle.dossier_check.specs.inside.Tests.{Tests};
 
 use crate::reasons::{MARGIN, PLAN};
 use crate::verdict::{Reason, Refusal};
@@ -44,7 +45,7 @@ fn steps_of(alloc: Global, plant: &Plant, lines: &[OpLine]) -> Result<Plan, Allo
 /// Where a broken rule stands in the dossier.
 #[tactic(auto, unfolding(crate::specs::Reasons::rule_reason))]
 fn rule_reason(broken: Broken) -> Reason
-    requires { broken.rule ≤ 11 → broken.at ≤ 1000 }
+    requires { broken.rule ≤ 11 → broken.at ≤ MOST_STEPS }
     ensures { result ≡ rule_reason broken }
 {
     Reason::at(PLAN, if broken.rule <= 11 { 8 + broken.at } else { 8 })
@@ -58,7 +59,7 @@ fn check_rules(
     slots: u32,
     steps: &[Timed],
 ) -> Result<Outcome, Refusal>
-    requires { slots ≤ 40 }
+    requires { slots ≤ MOST_SLOTS }
     ensures reasons { Tests (plan_reasons plant.now slots steps.now) result }
     ensures margin { IfOk result (λ outcome. outcome.margin ≡ margin_of plant.now steps.now) }
 {
@@ -92,7 +93,7 @@ fn check_lines(
     margin: Option<i64>,
     lines: &[OpLine],
 ) -> Result<Word, Refusal>
-    requires { slots ≤ 40 }
+    requires { slots ≤ MOST_SLOTS }
     ensures reasons { Tests (given_reasons plant.now slots margin (Some lines.now)) result }
     ensures steps { IfOk result (λ steps. steps ≡ plan_of plant.now lines.now) }
 {
@@ -110,7 +111,7 @@ pub(crate) fn check_plan(
     margin: Option<i64>,
     plan: &Option<OpLines>,
 ) -> Result<Option<Word>, Refusal>
-    requires { slots ≤ 40 }
+    requires { slots ≤ MOST_SLOTS }
     ensures reasons { Tests (given_reasons plant.now slots margin plan.now) result }
     ensures steps { IfOk result (λ steps. steps ≡ option_map (plan_of plant.now) plan.now) }
 {

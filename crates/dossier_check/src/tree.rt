@@ -1,17 +1,19 @@
 //! The search tree: one pass over its nodes.
 
-ghost use Rattle.std.specs.Prelude.{◌≡◌, ℕ, ◌+◌, ◌*◌, ◌<◌, ◌≤◌, ◌^◌, List, [], ◌∷◌, ◌++◌, Some, None, Ok, Err, length, IfOk};
+ghost use Rattle.std.specs.Prelude.{◌≡◌, ℕ, ◌+◌, ◌*◌, ◌<◌, ◌≤◌, List, [], Some, None, length, IfOk};
+ghost use Rattle.limits.specs.declared.TheConstants.{MOST_NODES, MOST_SLOTS};
 ghost use Rattle.slot_box.specs.declared.slot.Slot.{Slot};
 ghost use Rattle.slot_box.specs.Splits.{is_lawful, left_of, right_of};
 ghost use Rattle.item_lists.specs.Faults.{unless};
+ghost use Rattle.slot_forms.specs.Cases.{root_box, plain};
 ghost use Rattle.leaf_value.specs.LeafValue.{leaf_value_of};
-ghost use Rattle.leaf_value.specs.PlainValue.{root_box_of};
 ghost use Rattle.dossier_text.specs.Ranges.{IsReadable};
+ghost use Rattle.dossier_check.specs.Frames.{setting_of};
 ghost use Rattle.dossier_check.specs.Earlier.{Holder};
-ghost use Rattle.dossier_check.specs.NodeReasons.{reason, inner_reasons, leaf_reasons, nodes_reasons, greatest_value};
+ghost use Rattle.dossier_check.specs.NodeReasons.{reason, leaf_reasons, nodes_reasons, greatest_value};
 ghost use Rattle.dossier_check.specs.Reasons.{tree_reasons, greatest_of, first_node_line};
-ghost use Rattle.dossier_check.specs.Verdicts.{Tests};
-ghost use Rattle.dossier_check.specs.Walks.{Keeps, MeetsInner, Meets};
+ghost use Rattle.dossier_check.specs.inside.Tests.{Tests};
+ghost use Rattle.dossier_check.specs.inside.Walks.{LAST_FIRST_LINE, Keeps, MeetsInner, Meets, pass_of};
 
 use crate::leaves::{check_leaf, leaf_value};
 use crate::met::Met;
@@ -19,21 +21,11 @@ use crate::reasons::{PARENT, SPLIT, TICKET};
 use crate::verdict::{Reason, Refusal};
 use dossier_text::Dossier;
 use item_lists::expect;
-use leaf_value::greater;
+use leaf_value::greater_wide;
 use plant_model::Plant;
 use slot_box::{Leaf, Node, SlotBox, Split, SplitFault};
-use std::alloc::{AllocError, Global};
-
-/// What of a dossier its nodes are tested against.
-#[derive(Clone, Copy, Debug)]
-pub(crate) struct Frame {
-    /// The number of inner nodes.
-    pub(crate) nodes: u32,
-    /// The number of cuts.
-    pub(crate) cuts: u32,
-    /// The line of node 0.
-    pub(crate) first_line: u32,
-}
+use slot_forms::root_box;
+use std::alloc::Global;
 
 /// The two parts of the box of an inner node in this line.
 fn parts(
@@ -46,7 +38,7 @@ fn parts(
     ensures left { IfOk result (λ parts. parts.0 ≡ left_of bx.now split) }
     ensures right { IfOk result (λ parts. parts.1 ≡ right_of bx.now split) }
 {
-    // a box has slots
+    // a box keeps its limits
     let _ = bx.len();
     match bx.split(alloc, split) {
         Ok(parts) => Ok(parts),
@@ -64,9 +56,11 @@ fn meet_inner(
     ticket: u32,
     split: Split,
 ) -> Result<(), Refusal>
-    requires few { length met.old.held.items ≤ 65535 }
+    requires few { length met.old.held.items ≤ MOST_NODES }
     requires nodes { length met.old.waiting.items ≡ 2 * length met.old.held.items + 1 }
-    ensures { (root : List Slot) (earlier : List Holder) (id : ℕ) → Keeps root (length met.old.held.items) earlier id met.old → MeetsInner root (length met.old.held.items) earlier id line bx.now ticket split met.new result }
+    ensures { let t = length met.old.held.items in
+        (root : List Slot) (earlier : List Holder) (id : ℕ) → Keeps root t earlier id met.old
+        → MeetsInner root t earlier id line bx.now ticket split met.new result }
 {
     expect(met.is_free(ticket), Reason::at(TICKET, line))?;
     let (left, right) = parts(alloc, bx, line, split)?;
@@ -78,35 +72,37 @@ fn meet_inner(
 fn meet_leaf(
     alloc: Global,
     plant: &Plant,
+    dossier: &Dossier,
     bx: &SlotBox,
-    cuts: u32,
     line: u32,
     leaf: &Leaf,
-) -> Result<Option<i64>, Refusal>
-    ensures reasons { Tests (leaf_reasons cuts line bx.now leaf.now) result }
-    ensures value { IfOk result (λ value. value ≡ leaf_value_of plant.now bx.now leaf.now) }
+) -> Result<Option<i128>, Refusal>
+    ensures reasons { Tests (leaf_reasons (setting_of plant.now dossier.now) line bx.now leaf.now) result }
+    ensures value { IfOk result (λ value. value ≡ leaf_value_of (setting_of plant.now dossier.now) bx.now leaf.now) }
 {
-    check_leaf(cuts, line, bx, leaf)?;
-    Ok(leaf_value(alloc, plant, bx, leaf)?)
+    check_leaf(plant, dossier, line, bx, leaf)?;
+    Ok(leaf_value(alloc, plant, dossier, bx, leaf)?)
 }
 
 /// Meets the node of this id, which is the next: its value, if it is a leaf that has one.
 fn meet(
     alloc: Global,
     plant: &Plant,
-    frame: Frame,
+    dossier: &Dossier,
+    first_line: u32,
     met: &mut Met,
     id: u32,
     node: &Node,
-) -> Result<Option<i64>, Refusal>
-    requires few { frame.nodes ≤ 65535 }
-    requires next { id < 2 * frame.nodes + 1 }
-    requires line { frame.first_line ≤ 10000 }
-    requires nodes { length met.old.waiting.items ≡ 2 * frame.nodes + 1 }
-    requires tickets { length met.old.held.items ≡ frame.nodes }
-    ensures { (root : List Slot) (earlier : List Holder) → Keeps root frame.nodes earlier id met.old → Meets plant.now frame root earlier id node.now met.new result }
+) -> Result<Option<i128>, Refusal>
+    requires few { dossier.now.nodes ≤ MOST_NODES }
+    requires next { id < 2 * dossier.now.nodes + 1 }
+    requires line { first_line ≤ LAST_FIRST_LINE }
+    requires nodes { length met.old.waiting.items ≡ 2 * dossier.now.nodes + 1 }
+    requires tickets { length met.old.held.items ≡ dossier.now.nodes }
+    ensures { (root : List Slot) (earlier : List Holder) → Keeps root dossier.now.nodes earlier id met.old
+        → Meets (pass_of plant.now dossier.now first_line root) earlier id node.now met.new result }
 {
-    let line = frame.first_line + id;
+    let line = first_line + id;
     let Some(bx) = met.take(id) else {
         return Err(Refusal::First(Reason::at(PARENT, line)));
     };
@@ -115,7 +111,7 @@ fn meet(
             meet_inner(alloc, met, &bx, line, *ticket, *split)?;
             Ok(None)
         }
-        Node::Leaf(leaf) => meet_leaf(alloc, plant, &bx, frame.cuts, line, leaf),
+        Node::Leaf(leaf) => meet_leaf(alloc, plant, dossier, &bx, line, leaf),
     }
 }
 
@@ -123,38 +119,25 @@ fn meet(
 fn walk(
     alloc: Global,
     plant: &Plant,
-    frame: Frame,
+    dossier: &Dossier,
+    first_line: u32,
     root: SlotBox,
-    tree: &[Node],
-) -> Result<Option<i64>, Refusal>
-    requires few { frame.nodes ≤ 65535 }
-    requires line { frame.first_line ≤ 10000 }
-    requires nodes { length tree.now ≡ 2 * frame.nodes + 1 }
-    ensures reasons { Tests (nodes_reasons frame.nodes frame.cuts frame.first_line root [] 0 tree.now) result }
-    ensures greatest { IfOk result (λ value. value ≡ greatest_value plant.now root None [] 0 tree.now) }
+) -> Result<Option<i128>, Refusal>
+    requires few { dossier.now.nodes ≤ MOST_NODES }
+    requires line { first_line ≤ LAST_FIRST_LINE }
+    requires nodes { length dossier.now.tree ≡ 2 * dossier.now.nodes + 1 }
+    ensures reasons { Tests (nodes_reasons (setting_of plant.now dossier.now) dossier.now.nodes first_line root [] 0
+        dossier.now.tree) result }
+    ensures greatest { IfOk result (λ value. value
+        ≡ greatest_value (setting_of plant.now dossier.now) root None [] 0 dossier.now.tree) }
 {
-    let mut met = Met::none(alloc, frame.nodes, root)?;
+    let mut met = Met::none(alloc, dossier.nodes, root)?;
     let mut best = None;
-    for (id, node) in tree.iter().enumerate() {
-        let value = meet(alloc, plant, frame, &mut met, id as u32, node)?;
-        best = greater(best, value);
+    for (id, node) in dossier.tree.as_slice().iter().enumerate() {
+        let value = meet(alloc, plant, dossier, first_line, &mut met, id as u32, node)?;
+        best = greater_wide(best, value);
     }
     Ok(best)
-}
-
-/// The root box of a dossier of so many slots.
-fn root_box(alloc: Global, plant: &Plant, slots: u32) -> Result<SlotBox, AllocError>
-    requires some_slots { 1 ≤ slots }
-    requires most_slots { slots ≤ 40 }
-    ensures { IfOk result (λ bx. bx ≡ root_box_of plant.now slots) }
-{
-    SlotBox::root(
-        alloc,
-        slots,
-        plant.op_count(),
-        plant.greatest_volume(),
-        plant.horizon(),
-    )
 }
 
 /// Tests the tree: the greatest value of a leaf, where some leaf has a value.
@@ -164,19 +147,14 @@ pub(crate) fn check_tree(
     plant: &Plant,
     dossier: &Dossier,
     first_line: u32,
-) -> Result<Option<i64>, Refusal>
+) -> Result<Option<i128>, Refusal>
     requires readable { IsReadable dossier.now }
     requires some_slots { 1 ≤ dossier.now.slots }
-    requires most_slots { dossier.now.slots ≤ 40 }
+    requires most_slots { dossier.now.slots ≤ MOST_SLOTS }
     requires line { first_line ≡ first_node_line dossier.now }
-    ensures reasons { Tests (tree_reasons plant.now dossier.now) result }
-    ensures greatest { IfOk result (λ value. value ≡ greatest_of plant.now dossier.now) }
+    ensures reasons { Tests (tree_reasons (setting_of plant.now dossier.now) dossier.now) result }
+    ensures greatest { IfOk result (λ value. value ≡ greatest_of (setting_of plant.now dossier.now) dossier.now) }
 {
     let root = root_box(alloc, plant, dossier.slots)?;
-    let frame = Frame {
-        nodes: dossier.nodes,
-        cuts: dossier.cuts.as_slice().len() as u32,
-        first_line,
-    };
-    walk(alloc, plant, frame, root, dossier.tree.as_slice())
+    walk(alloc, plant, dossier, first_line, root)
 }

@@ -6,8 +6,10 @@ use Rattle.std.specs.Str.{bytes_eq}
 use Rattle.std.proofs.lemmas.Bool.{false_from_ne_true}
 use Rattle.std.proofs.lemmas.Slice.Eq.{bytes_eq-Decides}
 use Rattle.std.proofs.lemmas.Option.{none-some}
+use Rattle.limits.specs.declared.TheConstants.{MOST_SLOTS}
 use Rattle.line_text.specs.Words.{words_of, line_of}
-use Rattle.line_text.specs.Decimal.{with_digit, decimal_of, signed_of}
+use Rattle.line_text.specs.Decimal.{decimal_of, signed_of}
+use Rattle.line_text.specs.inside.Digits.{with_digit}
 use Rattle.line_text.proofs.DecimalLaws.{decimal_of-decimal, decimal_of-some}
 use Rattle.line_text.proofs.SignedLaws.{signed_of-decimal, signed_of-some}
 use Rattle.line_text.proofs.WordLaws.{IsWord, line_of-words_of, words_of-line_of}
@@ -18,7 +20,7 @@ use Rattle.dossier_text.specs.declared.dossier.Word3.TheVariants.{Plan, Infeasib
 use Rattle.dossier_text.specs.Entries.{signed_word}
 use Rattle.dossier_text.specs.Faults.{limited}
 use Rattle.dossier_text.specs.Text.{answer_word}
-use Rattle.dossier_text.specs.HeadReading.{word_in, answer_of, answer_at, claim_of, claimed_at, plan_count_of, plan_count_at}
+use Rattle.dossier_text.specs.inside.HeadReading.{word_in, answer_of, answer_at, claim_of, claimed_at, plan_count_of, plan_count_at}
 use Rattle.dossier_text.proofs.StepLaws.{same_Ok, no_fault, behind, behind_formed, limited_ok, limited-few, by_word, behind_line, line_at-words, behind_key, word_at-ok, word_at-again}
 use Rattle.dossier_text.proofs.HeadLaws.{whole_line, line_in_front, literal}
 
@@ -60,7 +62,8 @@ answer_is_word Plan = literal (codes "plan") refl refl
 answer_is_word Infeasible = literal (codes "infeasible") refl refl
 answer_is_word Open3 = literal (codes "open") refl refl
 
-pub answer_at-ok : (bytes : List ℕ) (read : Word3 × List ℕ) → answer_at bytes ≡ Ok read → bytes ≡ whole_line (codes "answer" ∷ answer_word read.0 ∷ []) ++ read.1
+pub answer_at-ok : (bytes : List ℕ) (read : Word3 × List ℕ) → answer_at bytes ≡ Ok read → bytes ≡ whole_line (codes "answer" ∷ answer_word read.0 ∷ [])
+    ++ read.1
 unfolding answer_at
 answer_at-ok bytes read found =
     behind_line 5 bytes _ read found
@@ -97,7 +100,8 @@ none_is_no_signed = refl
 signed_is_not_none : (z : ℤ) → FitsSigned w64 z → bytes_eq (signed_word (Some z)) (codes "none") ≡ false
 signed_is_not_none z fits =
     false_from_ne_true (bytes_eq (signed_word (Some z)) (codes "none"))
-    (λ same. none-some z (sym none_is_no_signed ∙ ap signed_of (sym ((bytes_eq-Decides (signed_word (Some z)) (codes "none")).0 same)) ∙ signed_of-decimal z fits))
+    (λ same. none-some z (sym none_is_no_signed ∙ ap signed_of (sym ((bytes_eq-Decides (signed_word (Some z)) (codes "none")).0 same))
+    ∙ signed_of-decimal z fits))
 
 claim_of-ok : (line : ℕ) (word : List ℕ) (claim : Option ℤ) → claim_of line word ≡ Ok claim → (word ≡ signed_word claim) × IsClaim claim
 unfolding claim_of
@@ -119,7 +123,8 @@ claim_is_word : (claim : Option ℤ) → IsClaim claim → IsWord (signed_word c
 claim_is_word None fits = literal (codes "none") refl refl
 claim_is_word (Some z) fits = signed_is_word z fits
 
-pub claimed_at-ok : (line : ℕ) (key bytes : List ℕ) (read : Option ℤ × List ℕ) → claimed_at line key bytes ≡ Ok read → (bytes ≡ whole_line (key ∷ signed_word read.0 ∷ []) ++ read.1) × IsClaim read.0
+pub claimed_at-ok : (line : ℕ) (key bytes : List ℕ) (read : Option ℤ × List ℕ) → claimed_at line key bytes ≡ Ok read →
+    (bytes ≡ whole_line (key ∷ signed_word read.0 ∷ []) ++ read.1) × IsClaim read.0
 unfolding claimed_at
 claimed_at-ok line key bytes read found =
     behind_line line bytes _ read found
@@ -133,7 +138,8 @@ claimed_at-ok line key bytes read found =
     subst (λ (r : Option ℤ × List ℕ). (bytes ≡ whole_line (key ∷ signed_word r.0 ∷ []) ++ r.1) × IsClaim r.0) (same_Ok (claim, rest) read found)
     (line_in_front (key ∷ signed_word claim ∷ []) text bytes rest whole words, claimed.1))))
 
-pub claimed_at-again : (line : ℕ) (key : List ℕ) (claim : Option ℤ) (rest : List ℕ) → IsWord key → IsClaim claim → claimed_at line key (whole_line (key ∷ signed_word claim ∷ []) ++ rest) ≡ Ok (claim, rest)
+pub claimed_at-again : (line : ℕ) (key : List ℕ) (claim : Option ℤ) (rest : List ℕ) → IsWord key → IsClaim claim →
+    claimed_at line key (whole_line (key ∷ signed_word claim ∷ []) ++ rest) ≡ Ok (claim, rest)
 unfolding claimed_at
 claimed_at-again line key claim rest word fits =
     rw (
@@ -150,16 +156,17 @@ count_word None = codes "none"
 count_word (Some count) = decimal count
 
 abbrev pub IsPlanCount : Option ℕ → Type 0
-IsPlanCount count = IfSome count (λ few. few ≤ 40)
+IsPlanCount count = IfSome count (λ few. few ≤ MOST_SLOTS)
 
 none_is_no_decimal : decimal_of (2 ^ 32 - 1) (codes "none") ≡ None
 unfolding decimal_of with_digit
 none_is_no_decimal = refl
 
-decimal_is_not_none : (n : ℕ) → n ≤ 40 → bytes_eq (decimal n) (codes "none") ≡ false
+decimal_is_not_none : (n : ℕ) → n ≤ MOST_SLOTS → bytes_eq (decimal n) (codes "none") ≡ false
 decimal_is_not_none n few =
     false_from_ne_true (bytes_eq (decimal n) (codes "none"))
-    (λ same. none-some n (sym none_is_no_decimal ∙ ap (decimal_of (2 ^ 32 - 1)) (sym ((bytes_eq-Decides (decimal n) (codes "none")).0 same)) ∙ decimal_of-decimal (2 ^ 32 - 1) n (omega arith) (omega arith)))
+    (λ same. none-some n (sym none_is_no_decimal ∙ ap (decimal_of (2 ^ 32 - 1)) (sym ((bytes_eq-Decides (decimal n) (codes "none")).0 same))
+    ∙ decimal_of-decimal (2 ^ 32 - 1) n (omega arith) (omega arith)))
 
 plan_count_of-ok : (line : ℕ) (word : List ℕ) (count : Option ℕ) → plan_count_of line word ≡ Ok count → (word ≡ count_word count) × IsPlanCount count
 unfolding plan_count_of
@@ -169,22 +176,28 @@ plan_count_of-ok line word count found =
     (λ found.
     behind_formed line (decimal_of (2 ^ 32 - 1) word) _ count found
     (λ n is found.
-    behind (limited line 40 n n) _ count found
+    behind (limited line MOST_SLOTS n n) _ count found
     (λ few are found.
     let text = decimal_of-some (2 ^ 32 - 1) word n is (omega arith) in
-    let within = limited_ok line 40 n n few are in
+    let within = limited_ok line MOST_SLOTS n n few are in
     subst (λ (c : Option ℕ). (word ≡ count_word c) × IsPlanCount c) (ap (λ (k : ℕ). Some k) within.0 ∙ same_Ok (Some few) count found) (text.0, within.1))))
 
 plan_count_of-again : (line : ℕ) (count : Option ℕ) → IsPlanCount count → plan_count_of line (count_word count) ≡ Ok count
 unfolding plan_count_of
 plan_count_of-again line None few = refl
-plan_count_of-again line (Some n) few = rw (decimal_is_not_none n few, decimal_of-decimal (2 ^ 32 - 1) n (omega (arith, few)) (omega arith), limited-few line 40 n n few) refl
+plan_count_of-again line (Some n) few = rw (
+  decimal_is_not_none n few,
+  decimal_of-decimal (2 ^ 32 - 1) n (omega (arith, few)) (omega arith),
+  limited-few line
+      MOST_SLOTS n n few,
+) refl
 
 count_is_word : (count : Option ℕ) → IsPlanCount count → IsWord (count_word count)
 count_is_word None few = literal (codes "none") refl refl
 count_is_word (Some n) few = decimal_is_word n (omega (arith, few))
 
-pub plan_count_at-ok : (bytes : List ℕ) (read : Option ℕ × List ℕ) → plan_count_at bytes ≡ Ok read → (bytes ≡ whole_line (codes "plan" ∷ count_word read.0 ∷ []) ++ read.1) × IsPlanCount read.0
+pub plan_count_at-ok : (bytes : List ℕ) (read : Option ℕ × List ℕ) → plan_count_at bytes ≡ Ok read →
+    (bytes ≡ whole_line (codes "plan" ∷ count_word read.0 ∷ []) ++ read.1) × IsPlanCount read.0
 unfolding plan_count_at
 plan_count_at-ok bytes read found =
     behind_line 8 bytes _ read found
@@ -198,7 +211,8 @@ plan_count_at-ok bytes read found =
     subst (λ (r : Option ℕ × List ℕ). (bytes ≡ whole_line (codes "plan" ∷ count_word r.0 ∷ []) ++ r.1) × IsPlanCount r.0) (same_Ok (count, rest) read found)
     (line_in_front (codes "plan" ∷ count_word count ∷ []) text bytes rest whole words, counted.1))))
 
-pub plan_count_at-again : (count : Option ℕ) (rest : List ℕ) → IsPlanCount count → plan_count_at (whole_line (codes "plan" ∷ count_word count ∷ []) ++ rest) ≡ Ok (count, rest)
+pub plan_count_at-again : (count : Option ℕ) (rest : List ℕ) → IsPlanCount count → plan_count_at (whole_line (codes "plan" ∷ count_word count ∷ []) ++ rest)
+    ≡ Ok (count, rest)
 unfolding plan_count_at
 plan_count_at-again count rest few =
     let key = literal (codes "plan") refl refl in

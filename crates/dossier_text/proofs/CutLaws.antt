@@ -4,6 +4,7 @@ use Rattle.std.specs.Prelude.{codes}
 use Rattle.std.specs.Int.{w64}
 use Rattle.std.specs.Fmt.{signed_decimal}
 use Rattle.std.specs.List.{AllByRecursion}
+use Rattle.limits.specs.declared.TheConstants.{MOST_CRUDES}
 use Rattle.line_text.specs.Words.{words_of, line_of}
 use Rattle.line_text.specs.Decimal.{signed_of}
 use Rattle.line_text.proofs.SignedLaws.{signed_of-decimal, signed_of-some}
@@ -13,8 +14,8 @@ use Rattle.dossier_text.specs.declared.fault.DossierFault.TheVariants.{Line}
 use Rattle.dossier_text.specs.declared.dossier.CutLine.{CutLine}
 use Rattle.dossier_text.specs.Nodes.{cut_words}
 use Rattle.dossier_text.specs.Ranges.{IsCutLine}
-use Rattle.dossier_text.specs.TermReading.{few_words}
-use Rattle.dossier_text.specs.CutReading.{some_of, weights_at, cut_at}
+use Rattle.dossier_text.specs.inside.TermReading.{few_words}
+use Rattle.dossier_text.specs.inside.CutReading.{some_of, weights_at, cut_at}
 use Rattle.dossier_text.proofs.StepLaws.{same_Ok, no_fault, behind, behind_key, behind_decimal, behind_signed}
 use Rattle.dossier_text.proofs.EachLaws.{ReadsWords, few_words-ok, few_words-again, each_is_word}
 
@@ -25,7 +26,7 @@ signed_words = record { read_is = signed_of-some; again = signed_of-decimal; wor
 
 pub record AreWeights (weights : List ℤ) : Type 0 where
   pub each : AllByRecursion (FitsSigned w64) weights
-  pub few : length weights ≤ 12
+  pub few : length weights ≤ MOST_CRUDES
   pub some : 1 ≤ length weights
 
 some_of-ok : (line : ℕ) (xs ys : List ℤ) → some_of line xs ≡ Ok ys → (xs ≡ ys) × (1 ≤ length ys)
@@ -38,12 +39,13 @@ some_of-again : (line : ℕ) (xs : List ℤ) → 1 ≤ length xs → some_of lin
 some_of-again line [] some = absurd (omega (arith, some))
 some_of-again line (x ∷ xs) some = refl
 
-weights_at-ok : (line : ℕ) (words : List (List ℕ)) (weights : List ℤ) → weights_at line words ≡ Ok weights → (words ≡ map signed_decimal weights) × AreWeights weights
+weights_at-ok : (line : ℕ) (words : List (List ℕ)) (weights : List ℤ) → weights_at line words ≡ Ok weights → (words ≡ map signed_decimal weights) ×
+    AreWeights weights
 unfolding weights_at
 weights_at-ok line words weights found =
-    behind (few_words signed_of line 12 words) (some_of line) weights found
+    behind (few_words signed_of line MOST_CRUDES words) (some_of line) weights found
     (λ read is found.
-    let text = few_words-ok signed_of signed_decimal (FitsSigned w64) signed_words line 12 words read is in
+    let text = few_words-ok signed_of signed_decimal (FitsSigned w64) signed_words line MOST_CRUDES words read is in
     let some = some_of-ok line read weights found in
     let same = some.0 in
     subst (λ (ws : List ℤ). (words ≡ map signed_decimal ws) × AreWeights ws) same
@@ -51,7 +53,8 @@ weights_at-ok line words weights found =
 
 weights_at-again : (line : ℕ) (weights : List ℤ) → AreWeights weights → weights_at line (map signed_decimal weights) ≡ Ok weights
 unfolding weights_at
-weights_at-again line weights are = rw (few_words-again signed_of signed_decimal (FitsSigned w64) signed_words line 12 weights are.each are.few) (some_of-again line weights are.some)
+weights_at-again line weights are = rw (few_words-again signed_of signed_decimal (FitsSigned w64) signed_words line MOST_CRUDES weights are.each are.few)
+    (some_of-again line weights are.some)
 
 -- ---- cuts
 

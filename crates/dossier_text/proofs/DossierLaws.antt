@@ -2,6 +2,7 @@
 use Rattle.std.proofs.Common.{◌≡◌, ℕ, ◌-◌, ◌+◌, ◌^◌, ◌<◌, ◌≤◌, List, [], ◌∷◌, ◌++◌, length, Result, Ok, Err, refl, sym, ap, subst, ◌∙◌, arith, append_assoc}
 use Rattle.std.specs.Prelude.{codes, decimal, IfOk}
 use Rattle.std.proofs.lemmas.List.{append-nil}
+use Rattle.limits.specs.declared.TheConstants.{MOST_NODES}
 use Rattle.line_text.specs.Words.{text_of}
 use Rattle.dossier_text.specs.declared.fault.DossierFault.{DossierFault}
 use Rattle.dossier_text.specs.declared.fault.DossierFault.TheVariants.{Line}
@@ -13,7 +14,7 @@ use Rattle.dossier_text.specs.Ranges.{IsReadable}
 use Rattle.dossier_text.specs.Text.{answer_word, format_lines, size_lines, claim_lines, plan_lines, cut_lines, dossier_bytes}
 use Rattle.dossier_text.specs.Entries.{signed_word}
 use Rattle.dossier_text.specs.Faults.{Gives}
-use Rattle.dossier_text.specs.HeadReading.{fixed_at, format_at, count_at, sizes_at, answer_at, claimed_at, claim_at}
+use Rattle.dossier_text.specs.inside.HeadReading.{fixed_at, format_at, count_at, sizes_at, answer_at, claimed_at, claim_at}
 use Rattle.dossier_text.specs.Reading.{plan_at, cuts_at, tree_at, none_left, ending_at, plan_length, dossier_at}
 use Rattle.dossier_text.proofs.Joining.{dossier_bytes_in_parts}
 use Rattle.dossier_text.proofs.StepLaws.{same_Ok, no_fault, behind}
@@ -32,34 +33,38 @@ three_lines a b c rest = append_assoc a (b ++ (c ++ [])) rest ∙ ap (λ (t : Li
 
 pub record AreSizes (sizes : Sizes) : Type 0 where
   pub slots : sizes.slots < 2 ^ 32
-  pub nodes : sizes.nodes ≤ 65535
+  pub nodes : sizes.nodes ≤ MOST_NODES
 
-sizes_at-ok : (bytes : List ℕ) (read : Sizes × List ℕ) → sizes_at bytes ≡ Ok read → (bytes ≡ text_of (size_lines read.0.slots read.0.nodes) ++ read.1) × AreSizes read.0
+sizes_at-ok : (bytes : List ℕ) (read : Sizes × List ℕ) → sizes_at bytes ≡ Ok read → (bytes ≡ text_of (size_lines read.0.slots read.0.nodes) ++ read.1) ×
+    AreSizes read.0
 unfolding sizes_at size_lines
 sizes_at-ok bytes read found =
     behind (count_at 3 (codes "slots") (2 ^ 32 - 1) bytes) _ read found
     (λ slots is found.
-    behind (count_at 4 (codes "nodes") 65535 slots.1) _ read found
+    behind (count_at 4 (codes "nodes") MOST_NODES slots.1) _ read found
     (λ nodes are found.
     let first = count_at-ok 3 (codes "slots") (2 ^ 32 - 1) bytes slots is in
-    let second = count_at-ok 4 (codes "nodes") 65535 slots.1 nodes are in
+    let second = count_at-ok 4 (codes "nodes") MOST_NODES slots.1 nodes are in
     let rest = more_text (codes "nodes" ∷ decimal nodes.0 ∷ []) [] slots.1 nodes.1 nodes.1 second.0 refl in
     let whole = more_text (codes "slots" ∷ decimal slots.0 ∷ []) ((codes "nodes" ∷ decimal nodes.0 ∷ []) ∷ []) bytes slots.1 nodes.1 first.0 rest in
     let sizes : Sizes = record { slots = slots.0; nodes = nodes.0 } in
     let fits : AreSizes sizes = record { slots = first.1.small; nodes = second.1.few } in
-    subst (λ (r : Sizes × List ℕ). (bytes ≡ text_of (size_lines r.0.slots r.0.nodes) ++ r.1) × AreSizes r.0) (same_Ok (sizes, nodes.1) read found) (whole, fits)))
+    subst (λ (r : Sizes × List ℕ). (bytes ≡ text_of (size_lines r.0.slots r.0.nodes) ++ r.1) × AreSizes r.0) (same_Ok (sizes, nodes.1) read found)
+    (whole, fits)))
 
-sizes_at-again : (slots nodes : ℕ) (rest : List ℕ) → slots < 2 ^ 32 → nodes ≤ 65535 → sizes_at (text_of (size_lines slots nodes) ++ rest) ≡ Ok (record { slots = slots; nodes = nodes }, rest)
+sizes_at-again : (slots nodes : ℕ) (rest : List ℕ) → slots < 2 ^ 32 → nodes ≤ MOST_NODES → sizes_at (text_of (size_lines slots nodes) ++ rest)
+    ≡ Ok (record { slots = slots; nodes = nodes }, rest)
 unfolding sizes_at size_lines
 sizes_at-again slots nodes rest small few =
-    let regrouped : text_of (size_lines slots nodes) ++ rest ≡ whole_line (codes "slots" ∷ decimal slots ∷ []) ++ (whole_line (codes "nodes" ∷ decimal nodes ∷ []) ++ rest) =
+    let regrouped : text_of (size_lines slots nodes) ++ rest ≡ whole_line (codes "slots" ∷ decimal slots ∷ [])
+    ++ (whole_line (codes "nodes" ∷ decimal nodes ∷ []) ++ rest) =
     two_lines (whole_line (codes "slots" ∷ decimal slots ∷ [])) (whole_line (codes "nodes" ∷ decimal nodes ∷ [])) rest in
     let first : IsCount (2 ^ 32 - 1) slots = record { small = small; few = omega arith } in
-    let second : IsCount 65535 nodes = record { small = omega arith; few = few } in
+    let second : IsCount MOST_NODES nodes = record { small = omega arith; few = few } in
     ap sizes_at regrouped
     ∙ rw (
       count_at-again 3 (codes "slots") (2 ^ 32 - 1) slots (whole_line (codes "nodes" ∷ decimal nodes ∷ []) ++ rest) (literal (codes "slots") refl refl) first,
-      count_at-again 4 (codes "nodes") 65535 nodes rest (literal (codes "nodes") refl refl) second,
+      count_at-again 4 (codes "nodes") MOST_NODES nodes rest (literal (codes "nodes") refl refl) second,
     )
     refl
 
@@ -69,7 +74,8 @@ pub record IsClaims (claim : Claim) : Type 0 where
   pub margin : IsClaim claim.margin
   pub bound : IsClaim claim.bound
 
-claim_at-ok : (bytes : List ℕ) (read : Claim × List ℕ) → claim_at bytes ≡ Ok read → (bytes ≡ text_of (claim_lines read.0.answer read.0.margin read.0.bound) ++ read.1) × IsClaims read.0
+claim_at-ok : (bytes : List ℕ) (read : Claim × List ℕ) → claim_at bytes ≡ Ok read →
+    (bytes ≡ text_of (claim_lines read.0.answer read.0.margin read.0.bound) ++ read.1) × IsClaims read.0
 unfolding claim_at claim_lines
 claim_at-ok bytes read found =
     behind (answer_at bytes) _ read found
@@ -82,18 +88,24 @@ claim_at-ok bytes read found =
     let second = claimed_at-ok 6 (codes "margin") answer.1 margin are in
     let third = claimed_at-ok 7 (codes "bound") margin.1 bound be in
     let last = more_text (codes "bound" ∷ signed_word bound.0 ∷ []) [] margin.1 bound.1 bound.1 third.0 refl in
-    let middle = more_text (codes "margin" ∷ signed_word margin.0 ∷ []) ((codes "bound" ∷ signed_word bound.0 ∷ []) ∷ []) answer.1 margin.1 bound.1 second.0 last in
-    let whole = more_text (codes "answer" ∷ answer_word answer.0 ∷ []) ((codes "margin" ∷ signed_word margin.0 ∷ []) ∷ (codes "bound" ∷ signed_word bound.0 ∷ []) ∷ []) bytes answer.1 bound.1 first middle in
+    let middle = more_text (codes "margin" ∷ signed_word margin.0 ∷ []) ((codes "bound" ∷ signed_word bound.0 ∷ []) ∷ []) answer.1 margin.1 bound.1 second.0
+    last in
+    let whole = more_text (codes "answer" ∷ answer_word answer.0 ∷ []) ((codes "margin" ∷ signed_word margin.0 ∷ [])
+    ∷ (codes "bound" ∷ signed_word bound.0 ∷ []) ∷ []) bytes answer.1 bound.1 first middle in
     let claim : Claim = record { answer = answer.0; margin = margin.0; bound = bound.0 } in
     let fits : IsClaims claim = record { margin = second.1; bound = third.1 } in
-    subst (λ (r : Claim × List ℕ). (bytes ≡ text_of (claim_lines r.0.answer r.0.margin r.0.bound) ++ r.1) × IsClaims r.0) (same_Ok (claim, bound.1) read found) (whole, fits))))
+    subst (λ (r : Claim × List ℕ). (bytes ≡ text_of (claim_lines r.0.answer r.0.margin r.0.bound) ++ r.1) × IsClaims r.0) (same_Ok (claim, bound.1) read found)
+    (whole, fits))))
 
-claim_at-again : (claim : Claim) (rest : List ℕ) → IsClaims claim → claim_at (text_of (claim_lines claim.answer claim.margin claim.bound) ++ rest) ≡ Ok (claim, rest)
+claim_at-again : (claim : Claim) (rest : List ℕ) → IsClaims claim → claim_at (text_of (claim_lines claim.answer claim.margin claim.bound) ++ rest)
+    ≡ Ok (claim, rest)
 unfolding claim_at claim_lines
 claim_at-again claim rest is =
     let last : List ℕ = whole_line (codes "bound" ∷ signed_word claim.bound ∷ []) ++ rest in
-    let regrouped : text_of (claim_lines claim.answer claim.margin claim.bound) ++ rest ≡ whole_line (codes "answer" ∷ answer_word claim.answer ∷ []) ++ (whole_line (codes "margin" ∷ signed_word claim.margin ∷ []) ++ last) =
-    three_lines (whole_line (codes "answer" ∷ answer_word claim.answer ∷ [])) (whole_line (codes "margin" ∷ signed_word claim.margin ∷ [])) (whole_line (codes "bound" ∷ signed_word claim.bound ∷ [])) rest in
+    let regrouped : text_of (claim_lines claim.answer claim.margin claim.bound) ++ rest ≡ whole_line (codes "answer" ∷ answer_word claim.answer ∷ [])
+    ++ (whole_line (codes "margin" ∷ signed_word claim.margin ∷ []) ++ last) =
+    three_lines (whole_line (codes "answer" ∷ answer_word claim.answer ∷ [])) (whole_line (codes "margin" ∷ signed_word claim.margin ∷ []))
+    (whole_line (codes "bound" ∷ signed_word claim.bound ∷ [])) rest in
     ap claim_at regrouped
     ∙ rw (
       answer_at-again claim.answer (whole_line (codes "margin" ∷ signed_word claim.margin ∷ []) ++ last),
@@ -124,7 +136,8 @@ ending_at-again line = rw (fixed_at-again line (codes "end" ∷ []) [] (literal 
 regrouped : (a b c d e f g : List ℕ) → a ++ b ++ c ++ d ++ e ++ f ++ g ≡ a ++ (b ++ (c ++ (d ++ (e ++ (f ++ g)))))
 regrouped a b c d e f g = simp append_assoc
 
-joined : (a b c d e f bytes r0 r1 r2 r3 r4 r5 : List ℕ) → bytes ≡ a ++ r0 → r0 ≡ b ++ r1 → r1 ≡ c ++ r2 → r2 ≡ d ++ r3 → r3 ≡ e ++ r4 → r4 ≡ f ++ r5 → r5 ≡ codes "end\n" → bytes ≡ a ++ b ++ c ++ d ++ e ++ f ++ codes "end\n"
+joined : (a b c d e f bytes r0 r1 r2 r3 r4 r5 : List ℕ) → bytes ≡ a ++ r0 → r0 ≡ b ++ r1 → r1 ≡ c ++ r2 → r2 ≡ d ++ r3 → r3 ≡ e ++ r4 → r4 ≡ f ++ r5 →
+    r5 ≡ codes "end\n" → bytes ≡ a ++ b ++ c ++ d ++ e ++ f ++ codes "end\n"
 joined a b c d e f bytes r0 r1 r2 r3 r4 r5 e0 e1 e2 e3 e4 e5 e6 = rw (e0, e1, e2, e3, e4, e5, e6) (sym (regrouped a b c d e f (codes "end\n")))
 
 pub dossier_at-ok : (bytes : List ℕ) (dossier : Dossier) → dossier_at bytes ≡ Ok dossier → IsReadable dossier × (bytes ≡ dossier_bytes dossier)
@@ -173,7 +186,9 @@ dossier_at-ok bytes dossier found =
       tree = e5.1.each;
     } in
     let whole : bytes ≡ dossier_bytes made =
-    joined (text_of format_lines) (text_of (size_lines made.slots made.nodes)) (text_of (claim_lines made.answer made.margin made.bound)) (text_of (plan_lines made.plan)) (text_of (cut_lines made.cuts)) (text_of (node_lines 0 made.tree)) bytes r0 sizes.1 claim.1 plan.1 cuts.1 tree.1 e0 e1.0 e2.0 e3.0 e4.0 e5.0 e6
+    joined (text_of format_lines) (text_of (size_lines made.slots made.nodes)) (text_of (claim_lines made.answer made.margin made.bound))
+    (text_of (plan_lines made.plan)) (text_of (cut_lines made.cuts)) (text_of (node_lines 0 made.tree)) bytes r0 sizes.1 claim.1 plan.1 cuts.1 tree.1 e0
+    e1.0 e2.0 e3.0 e4.0 e5.0 e6
     ∙ sym (dossier_bytes_in_parts made) in
     subst (λ (d : Dossier). IsReadable d × (bytes ≡ dossier_bytes d)) (same_Ok made dossier found) (fits, whole))))))))
 
@@ -181,7 +196,9 @@ pub dossier_at-again : (dossier : Dossier) → IsReadable dossier → dossier_at
 unfolding dossier_at
 dossier_at-again d is =
     let claim : Claim = record { answer = d.answer; margin = d.margin; bound = d.bound } in
-    ap dossier_at (dossier_bytes_in_parts d ∙ regrouped (text_of format_lines) (text_of (size_lines d.slots d.nodes)) (text_of (claim_lines d.answer d.margin d.bound)) (text_of (plan_lines d.plan)) (text_of (cut_lines d.cuts)) (text_of (node_lines 0 d.tree)) (codes "end\n"))
+    ap dossier_at (dossier_bytes_in_parts d ∙ regrouped (text_of format_lines) (text_of (size_lines d.slots d.nodes))
+    (text_of (claim_lines d.answer d.margin d.bound)) (text_of (plan_lines d.plan)) (text_of (cut_lines d.cuts)) (text_of (node_lines 0 d.tree))
+    (codes "end\n"))
     ∙ rw (
       format_at-again,
       sizes_at-again d.slots d.nodes _ is.slots is.nodes,
@@ -194,9 +211,12 @@ dossier_at-again d is =
     refl
 
 -- the two sides of what a reader answers
-pub dossier-found : (bytes : List ℕ) (answer : Result Dossier DossierFault) → Gives (λ d. d) answer (dossier_at bytes) → IfOk answer (λ d. IsReadable d × (bytes ≡ dossier_bytes d))
+pub dossier-found : (bytes : List ℕ) (answer : Result Dossier DossierFault) → Gives (λ d. d) answer (dossier_at bytes) →
+    IfOk answer (λ d. IsReadable d × (bytes ≡ dossier_bytes d))
 dossier-found bytes (Ok d) given = dossier_at-ok bytes d given
 dossier-found bytes (Err fault) given = tt
 
-pub dossier-only : (bytes : List ℕ) (answer : Result Dossier DossierFault) → Gives (λ d. d) answer (dossier_at bytes) → (dossier : Dossier) → IsReadable dossier → bytes ≡ dossier_bytes dossier → Gives (λ d. d) answer (Ok dossier)
-dossier-only bytes answer given dossier is text = subst (λ (read : Result Dossier DossierFault). Gives (λ d. d) answer read) (ap dossier_at text ∙ dossier_at-again dossier is) given
+pub dossier-only : (bytes : List ℕ) (answer : Result Dossier DossierFault) → Gives (λ d. d) answer (dossier_at bytes) → (dossier : Dossier) → IsReadable dossier
+    → bytes ≡ dossier_bytes dossier → Gives (λ d. d) answer (Ok dossier)
+dossier-only bytes answer given dossier is text = subst (λ (read : Result Dossier DossierFault). Gives (λ d. d) answer read)
+    (ap dossier_at text ∙ dossier_at-again dossier is) given

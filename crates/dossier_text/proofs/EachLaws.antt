@@ -6,7 +6,7 @@ use Rattle.line_text.specs.Reading.{◌>>=◌}
 use Rattle.line_text.proofs.ReadingLaws.{step_some}
 use Rattle.line_text.proofs.WordLaws.{IsWord, AreWords}
 use Rattle.dossier_text.specs.Faults.{limited}
-use Rattle.dossier_text.specs.TermReading.{each_word, few_words}
+use Rattle.dossier_text.specs.inside.TermReading.{each_word, few_words}
 use Rattle.dossier_text.proofs.StepLaws.{behind_formed, limited_ok, limited-few}
 
 -- a way to read a word, and a way to write it

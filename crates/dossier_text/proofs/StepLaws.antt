@@ -15,7 +15,7 @@ use Rattle.line_text.proofs.ReadingLaws.{key_at-some, decimal_at-some, decimal_a
 use Rattle.dossier_text.specs.declared.fault.DossierFault.{DossierFault}
 use Rattle.dossier_text.specs.declared.fault.DossierFault.TheVariants.{Line, TooMany}
 use Rattle.dossier_text.specs.Faults.{◌>>=◌, formed, limited, line_at}
-use Rattle.dossier_text.specs.WordReading.{word_at, number_at}
+use Rattle.dossier_text.specs.inside.WordReading.{word_at, number_at}
 
 abbrev Words : Type 0
 Words = List (List ℕ)
@@ -31,7 +31,8 @@ no_fault fault y e = absurd cc
 
 -- ---- any step
 
-pub behind : {A B P : Type 0} (read : Result A DossierFault) (next : A → Result B DossierFault) (y : B) → (read >>= next) ≡ Ok y → ((x : A) → read ≡ Ok x → next x ≡ Ok y → P) → P
+pub behind : {A B P : Type 0} (read : Result A DossierFault) (next : A → Result B DossierFault) (y : B) → (read >>= next) ≡ Ok y →
+    ((x : A) → read ≡ Ok x → next x ≡ Ok y → P) → P
 behind (Ok x) next y found goes = goes x refl found
 behind (Err fault) next y found goes = no_fault fault y found
 
@@ -39,7 +40,8 @@ pub formed_ok : {A : Type 0} (line : ℕ) (read : Option A) (x : A) → formed l
 formed_ok line None x found = no_fault (Line line) x found
 formed_ok line (Some y) x found = ap (λ z. Some z) (same_Ok y x found)
 
-pub behind_formed : {A B P : Type 0} (line : ℕ) (read : Option A) (next : A → Result B DossierFault) (y : B) → (formed line read >>= next) ≡ Ok y → ((x : A) → read ≡ Some x → next x ≡ Ok y → P) → P
+pub behind_formed : {A B P : Type 0} (line : ℕ) (read : Option A) (next : A → Result B DossierFault) (y : B) → (formed line read >>= next) ≡ Ok y →
+    ((x : A) → read ≡ Some x → next x ≡ Ok y → P) → P
 behind_formed line read next y found goes = behind (formed line read) next y found (λ x is rest. goes x (formed_ok line read x is) rest)
 
 pub limited_ok : {A : Type 0} (line most count : ℕ) (x y : A) → limited line most count x ≡ Ok y → (x ≡ y) × (count ≤ most)
@@ -53,7 +55,8 @@ pub limited-few : {A : Type 0} (line most count : ℕ) (x : A) → count ≤ mos
 limited-few line most count x few = cond-true (leb count most) (done x) (Err (TooMany line)) (le-leb count most few)
 
 -- a choice by a word
-pub by_word : {A P : Type 0} (word key : List ℕ) (yes no : Result A DossierFault) (y : A) → cond (bytes_eq word key) yes no ≡ Ok y → (word ≡ key → yes ≡ Ok y → P) → (no ≡ Ok y → P) → P
+pub by_word : {A P : Type 0} (word key : List ℕ) (yes no : Result A DossierFault) (y : A) → cond (bytes_eq word key) yes no ≡ Ok y →
+    (word ≡ key → yes ≡ Ok y → P) → (no ≡ Ok y → P) → P
 by_word word key chosen other y found first second =
     elim (cases_Bool (bytes_eq word key)) [
       | inl same ↦ first ((bytes_eq-Decides word key).0 same) (sym (cond-true (bytes_eq word key) chosen other same) ∙ found)
@@ -74,18 +77,21 @@ line_at-words line words rest each =
 
 -- ---- words
 
-pub behind_key : {B P : Type 0} (line : ℕ) (key : List ℕ) (words : Words) (next : Words → Result B DossierFault) (y : B) → (formed line (key_at key words) >>= next) ≡ Ok y
+pub behind_key : {B P : Type 0} (line : ℕ) (key : List ℕ) (words : Words) (next : Words → Result B DossierFault) (y : B) →
+    (formed line (key_at key words) >>= next) ≡ Ok y
     → ((rest : Words) → words ≡ key ∷ rest → next rest ≡ Ok y → P) → P
 behind_key line key words next y found goes =
     behind_formed line (key_at key words) next y found (λ rest is more. goes rest (key_at-some key words rest is) more)
 
-pub behind_decimal : {B P : Type 0} (line limit : ℕ) (words : Words) (next : ℕ × Words → Result B DossierFault) (y : B) → (formed line (decimal_at limit words) >>= next) ≡ Ok y → limit < 2 ^ 64
+pub behind_decimal : {B P : Type 0} (line limit : ℕ) (words : Words) (next : ℕ × Words → Result B DossierFault) (y : B) →
+    (formed line (decimal_at limit words) >>= next) ≡ Ok y → limit < 2 ^ 64
     → ((n : ℕ) (rest : Words) → words ≡ decimal n ∷ rest → n ≤ limit → next (n, rest) ≡ Ok y → P) → P
 behind_decimal line limit words next y found small goes =
     behind_formed line (decimal_at limit words) next y found
     (λ x is more. let word = decimal_at-some limit words x is small in goes x.0 x.1 word.0 word.1 more)
 
-pub behind_signed : {B P : Type 0} (line : ℕ) (words : Words) (next : ℤ × Words → Result B DossierFault) (y : B) → (formed line (signed_at words) >>= next) ≡ Ok y
+pub behind_signed : {B P : Type 0} (line : ℕ) (words : Words) (next : ℤ × Words → Result B DossierFault) (y : B) → (formed line (signed_at words) >>= next)
+    ≡ Ok y
     → ((z : ℤ) (rest : Words) → words ≡ signed_decimal z ∷ rest → FitsSigned w64 z → next (z, rest) ≡ Ok y → P) → P
 behind_signed line words next y found goes =
     behind_formed line (signed_at words) next y found

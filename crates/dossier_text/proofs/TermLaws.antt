@@ -20,8 +20,8 @@ use Rattle.slot_box.specs.declared.term.RowName.{RowName}
 use Rattle.slot_box.specs.declared.term.Term.{Term}
 use Rattle.slot_box.specs.declared.term.Term.TheVariants.{Row, Cut}
 use Rattle.dossier_text.specs.Entries.{term_word}
-use Rattle.dossier_text.specs.Ranges.{IsTerm, IsRowName}
-use Rattle.dossier_text.specs.TermReading.{row_of, cut_row_of, term_of}
+use Rattle.slot_box.specs.Ranges.{IsTerm, IsRowName}
+use Rattle.dossier_text.specs.inside.TermReading.{row_of, cut_row_of, term_of}
 
 -- a decimal behind the steps
 behind_decimal_of : {B P : Type 0} (limit : ℕ) (bytes : List ℕ) (next : ℕ → Option B) (y : B) → (decimal_of limit bytes >>= next) ≡ Some y → limit < 2 ^ 64
@@ -138,7 +138,8 @@ digits_are_not_cut : (n : ℕ) → n < 2 ^ 64 → bytes_eq (decimal n) (codes "c
 digits_are_not_cut n small =
     false_from_ne_true (bytes_eq (decimal n) (codes "cut"))
     (λ same.
-    let digits : all_ascii_digits (codes "cut") ≡ true = ap all_ascii_digits (sym ((bytes_eq-Decides (decimal n) (codes "cut")).0 same)) ∙ digits_decimal own n small in
+    let digits : all_ascii_digits (codes "cut") ≡ true = ap all_ascii_digits (sym ((bytes_eq-Decides (decimal n) (codes "cut")).0 same))
+    ∙ digits_decimal own n small in
     absurd (false≢true digits))
 
 row_again : (name : RowName) (y : ℕ) → IsRowName name → y < 2 ^ 64 → term_of (decimal name.family ++ 46 ∷ behind_family name y) ≡ Some (Row name y)
@@ -172,10 +173,12 @@ pub record IsOther (mark : ℕ) : Type 0 where
   pub dot : not (eqb 46 mark) ≡ true
   pub equals : not (eqb 61 mark) ≡ true
 
-free_six : (mark : ℕ) (a b c d e f : List ℕ) → is_free mark a ≡ true → is_free mark b ≡ true → is_free mark c ≡ true → is_free mark d ≡ true → is_free mark e ≡ true → is_free mark f ≡ true → is_free mark (a ++ b ++ c ++ d ++ e ++ f) ≡ true
+free_six : (mark : ℕ) (a b c d e f : List ℕ) → is_free mark a ≡ true → is_free mark b ≡ true → is_free mark c ≡ true → is_free mark d ≡ true → is_free mark e
+    ≡ true → is_free mark f ≡ true → is_free mark (a ++ b ++ c ++ d ++ e ++ f) ≡ true
 free_six mark a b c d e f pa pb pc pd pe pf =
     is_free-append mark (a ++ b ++ c ++ d ++ e) f
-    (is_free-append mark (a ++ b ++ c ++ d) e (is_free-append mark (a ++ b ++ c) d (is_free-append mark (a ++ b) c (is_free-append mark a b pa pb) pc) pd) pe) pf
+    (is_free-append mark (a ++ b ++ c ++ d) e (is_free-append mark (a ++ b ++ c) d (is_free-append mark (a ++ b) c (is_free-append mark a b pa pb) pc) pd) pe)
+    pf
 
 free_dotted : (mark n : ℕ) → IsOther mark → n < 2 ^ 64 → is_free mark (46 ∷ decimal n) ≡ true
 free_dotted mark n other small = and_from (not (eqb 46 mark)) (is_free mark (decimal n)) other.dot (is_free-decimal mark n small other.digit)
@@ -193,7 +196,8 @@ free_row mark name y fits small other =
     (free_dotted mark name.d other (omega (arith, fits.d)))
     (free_equals mark y other small)
 
-free_cut : (mark cut slot op y : ℕ) → IsTerm (Cut cut slot op y) → IsOther mark → is_free mark (codes "cut") ≡ true → is_free mark (term_word (Cut cut slot op y)) ≡ true
+free_cut : (mark cut slot op y : ℕ) → IsTerm (Cut cut slot op y) → IsOther mark → is_free mark (codes "cut") ≡ true →
+    is_free mark (term_word (Cut cut slot op y)) ≡ true
 free_cut mark cut slot op y fits other key =
     free_six mark [] (codes "cut") (46 ∷ decimal cut) (46 ∷ decimal slot) (46 ∷ decimal op) (61 ∷ decimal y)
     refl
@@ -210,5 +214,11 @@ line_feed_is_other : IsOther 10
 line_feed_is_other = record { digit = refl; dot = refl; equals = refl }
 
 pub term_word_is_word : (term : Term) → IsTerm term → IsWord (term_word term)
-term_word_is_word (Row name y) fits = record { unspaced = free_row 32 name y fits.0 fits.1 blank_is_other; unbroken = free_row 10 name y fits.0 fits.1 line_feed_is_other }
-term_word_is_word (Cut cut slot op y) fits = record { unspaced = free_cut 32 cut slot op y fits blank_is_other refl; unbroken = free_cut 10 cut slot op y fits line_feed_is_other refl }
+term_word_is_word (Row name y) fits = record {
+  unspaced = free_row 32 name y fits.0 fits.1 blank_is_other;
+  unbroken = free_row 10 name y fits.0 fits.1 line_feed_is_other;
+}
+term_word_is_word (Cut cut slot op y) fits = record {
+  unspaced = free_cut 32 cut slot op y fits blank_is_other refl;
+  unbroken = free_cut 10 cut slot op y fits line_feed_is_other refl;
+}

@@ -3,9 +3,5 @@ pub mod Nodes
 pub mod Text
 pub mod Ranges
 pub mod Faults
-pub mod WordReading
-pub mod TermReading
-pub mod CutReading
-pub mod NodeReading
-pub mod HeadReading
 pub mod Reading
+pub mod inside

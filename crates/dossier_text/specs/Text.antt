@@ -24,7 +24,8 @@ format_lines = (codes "crude" ∷ codes "dossier" ∷ codes "1" ∷ []) ∷ (cod
 unfoldable pub size_lines : ℕ → ℕ → List (List (List ℕ))
 size_lines slots nodes = (codes "slots" ∷ decimal slots ∷ []) ∷ (codes "nodes" ∷ decimal nodes ∷ []) ∷ []
 
--- what is claimed of the plans of at most so many operations as there are slots: the answer, the plan's margin, and a bound
+-- what is claimed of the plans of at most so many operations as there are slots: the answer, the plan's margin, and a
+-- bound
 unfoldable pub claim_lines : Word3 → Option ℤ → Option ℤ → List (List (List ℕ))
 claim_lines answer margin bound =
     (codes "answer" ∷ answer_word answer ∷ [])
@@ -44,7 +45,8 @@ cut_lines cuts = (codes "cuts" ∷ decimal (length cuts) ∷ []) ∷ map cut_wor
 -- all lines; node ids count from 0
 unfoldable pub dossier_lines : Dossier → List (List (List ℕ))
 dossier_lines dossier =
-    format_lines ++ size_lines dossier.slots dossier.nodes ++ claim_lines dossier.answer dossier.margin dossier.bound ++ plan_lines dossier.plan ++ cut_lines dossier.cuts ++ node_lines 0 dossier.tree
+    format_lines ++ size_lines dossier.slots dossier.nodes ++ claim_lines dossier.answer dossier.margin dossier.bound
+    ++ plan_lines dossier.plan ++ cut_lines dossier.cuts ++ node_lines 0 dossier.tree
     ++ (codes "end" ∷ []) ∷ []
 
 -- the text of a dossier

@@ -1,46 +1,33 @@
 ghost use Rattle.std.specs.Prelude.{◌≡◌};
 ghost use Rattle.dossier_text.specs.Faults.{Gives};
 ghost use Rattle.line_text.specs.Decimal.{signed_of};
-ghost use Rattle.dossier_text.specs.TermReading.{few_words};
-ghost use Rattle.dossier_text.specs.CutReading.{weights_at, cut_at};
+ghost use Rattle.dossier_text.specs.inside.CutReading.{weights_at, cut_at};
+ghost use Rattle.dossier_text.specs.inside.ListReading.{any_cut_at};
 
 use crate::dossier::CutLine;
 use crate::fault::DossierFault;
+use crate::list_lines::LineItem;
+use crate::list_words::{WordItem, few_words};
 use crate::steps::formed;
+use limits::MOST_CRUDES;
 use line_text::{Words, read_signed};
 use plant_model::Numbers;
 use std::alloc::Global;
 
-/// The most weights of a cut.
-const MOST_WEIGHTS: usize = 12;
+impl WordItem for i64 {
+    ghost said = { signed_of };
 
-/// The weights that the words are.
-fn few_weights_at(alloc: Global, line: u32, words: Words<'_>) -> Result<Vec<i64>, DossierFault>
-    ensures { Gives (λ weights. weights.items) result (few_words signed_of line 12 words.entry) }
-{
-    let mut weights = Vec::new(alloc);
-    let mut too_many = false;
-    for word in words {
-        let weight = formed(line, read_signed(word))?;
-        if weights.len() < MOST_WEIGHTS {
-            weights.push(weight).map_err(|_| DossierFault::Memory)?;
-        } else {
-            too_many = true;
-        }
-    }
-    if too_many {
-        Err(DossierFault::TooMany(line))
-    } else {
-        Ok(weights)
+    fn read(word: &[u8]) -> Option<i64> {
+        read_signed(word)
     }
 }
 
 /// The weights that the words are, of which there is at least one.
-#[tactic(auto, unfolding(crate::specs::CutReading::weights_at))]
+#[tactic(auto, unfolding(crate::specs::inside::CutReading::weights_at))]
 fn weights_at(alloc: Global, line: u32, words: Words<'_>) -> Result<Numbers, DossierFault>
     ensures { Gives (λ weights. weights) result (weights_at line words.entry) }
 {
-    let weights = few_weights_at(alloc, line, words)?;
+    let weights = few_words(alloc, line, u32::from(MOST_CRUDES), words)?.into_vec();
     if weights.is_empty() {
         Err(DossierFault::Line(line))
     } else {
@@ -49,8 +36,8 @@ fn weights_at(alloc: Global, line: u32, words: Words<'_>) -> Result<Numbers, Dos
 }
 
 /// What the text of a cut's line says.
-#[tactic(auto, unfolding(crate::specs::CutReading::cut_at))]
-pub fn cut_at(alloc: Global, line: u32, text: &[u8]) -> Result<CutLine, DossierFault>
+#[tactic(auto, unfolding(crate::specs::inside::CutReading::cut_at))]
+fn cut_at(alloc: Global, line: u32, text: &[u8]) -> Result<CutLine, DossierFault>
     ensures { Gives (λ cut. cut) result (cut_at line text.now) }
 {
     let mut words = Words::new(text);
@@ -65,4 +52,12 @@ pub fn cut_at(alloc: Global, line: u32, text: &[u8]) -> Result<CutLine, DossierF
         q,
         weights,
     })
+}
+
+impl LineItem for CutLine {
+    ghost said = { any_cut_at };
+
+    fn read(alloc: Global, line: u32, _index: u32, text: &[u8]) -> Result<CutLine, DossierFault> {
+        cut_at(alloc, line, text)
+    }
 }

@@ -1,11 +1,13 @@
-ghost use Rattle.std.specs.Prelude.{◌≡◌, ◌≤◌, IfOk, IfSome};
+ghost use Rattle.std.specs.Prelude.{◌≡◌, ◌≤◌, ◌<◌, ◌+◌, ◌^◌, IfOk, IfSome, OnOk};
+ghost use Rattle.limits.specs.declared.TheConstants.{MOST_SLOTS, MOST_NODES};
 ghost use Rattle.dossier_text.specs.Faults.{Gives};
-ghost use Rattle.dossier_text.specs.HeadReading.{fixed_at, format_at, count_in, count_at, sizes_at, word_in, answer_of, answer_at, claim_of, claimed_at, claim_at, plan_count_of, plan_count_at};
+ghost use Rattle.dossier_text.specs.inside.HeadReading.{fixed_at, format_at, count_in, count_at, sizes_at, word_in, answer_of, answer_at, claim_of, claimed_at, claim_at, plan_count_of, plan_count_at};
 
 use crate::dossier::Word3;
 use crate::fault::DossierFault;
 use crate::steps::{BITS_32, formed, limited, next_line, number_at, word_at};
-use line_text::{Words, read_decimal, read_signed};
+use limits::{MOST_NODES, MOST_SLOTS};
+use line_text::{Lines, Words, read_decimal, read_signed};
 
 /// How large a dossier is.
 #[derive(Clone, Copy)]
@@ -22,35 +24,34 @@ pub struct Claim {
     pub bound: Option<i64>,
 }
 
-/// The most inner nodes.
-const MOST_NODES: u32 = 65_535;
-
-/// The most operations of a plan.
-const MOST_OPERATIONS: u32 = 40;
-
-/// What stands behind this very line.
-#[tactic(auto, unfolding(crate::specs::HeadReading::fixed_at))]
-pub fn fixed_at<'a>(line: u32, text: &[u8], bytes: &'a [u8]) -> Result<&'a [u8], DossierFault>
-    ensures { Gives (λ rest. rest.now) result (fixed_at line text.now bytes.now) }
+/// Passes over this very line.
+#[tactic(auto, unfolding(crate::specs::inside::HeadReading::fixed_at))]
+pub fn fixed_at(text: &[u8], lines: &mut Lines<'_>) -> Result<(), DossierFault>
+    requires { lines.old.number + 1 < 2 ^ 32 }
+    ensures exact { Gives (λ _. lines.new.rest) result (fixed_at lines.old.number text.now lines.old.rest) }
+    ensures next { OnOk result (lines.new.number ≡ lines.old.number + 1) }
 {
-    let (found, rest) = next_line(line, bytes)?;
+    let line = lines.number();
+    let found = next_line(lines)?;
     if found == text {
-        Ok(rest)
+        Ok(())
     } else {
         Err(DossierFault::Line(line))
     }
 }
 
-/// What stands behind the two lines of the format.
-#[tactic(auto, unfolding(crate::specs::HeadReading::format_at))]
-pub fn format_at(bytes: &[u8]) -> Result<&[u8], DossierFault>
-    ensures { Gives (λ rest. rest.now) result (format_at bytes.now) }
+/// Passes over the two lines of the format.
+#[tactic(auto, unfolding(crate::specs::inside::HeadReading::format_at))]
+pub fn format_at(lines: &mut Lines<'_>) -> Result<(), DossierFault>
+    requires { lines.old.number ≡ 1 }
+    ensures exact { Gives (λ _. lines.new.rest) result (format_at lines.old.rest) }
+    ensures next { OnOk result (lines.new.number ≡ 3) }
 {
-    let rest = fixed_at(1, b"crude dossier 1", bytes)?;
-    fixed_at(2, b"order time", rest)
+    fixed_at(b"crude dossier 1", lines)?;
+    fixed_at(b"order time", lines)
 }
 
-#[tactic(auto, unfolding(crate::specs::HeadReading::count_in))]
+#[tactic(auto, unfolding(crate::specs::inside::HeadReading::count_in))]
 fn count_in(line: u32, key: &[u8], most: u32, text: &[u8]) -> Result<u32, DossierFault>
     ensures exact { Gives (λ count. count) result (count_in line key.now most text.now) }
     ensures within { IfOk result (λ count. count ≤ most) }
@@ -62,33 +63,33 @@ fn count_in(line: u32, key: &[u8], most: u32, text: &[u8]) -> Result<u32, Dossie
 }
 
 /// The count behind this word, which is to be at most so much.
-#[tactic(auto, unfolding(crate::specs::HeadReading::count_at))]
-pub fn count_at<'a>(
-    line: u32,
-    key: &[u8],
-    most: u32,
-    bytes: &'a [u8],
-) -> Result<(u32, &'a [u8]), DossierFault>
-    ensures exact { Gives (λ count. (count.0, count.1.now)) result (count_at line key.now most bytes.now) }
-    ensures within { IfOk result (λ count. count.0 ≤ most) }
+#[tactic(auto, unfolding(crate::specs::inside::HeadReading::count_at))]
+pub fn count_at(key: &[u8], most: u32, lines: &mut Lines<'_>) -> Result<u32, DossierFault>
+    requires { lines.old.number + 1 < 2 ^ 32 }
+    ensures exact { Gives (λ count. (count, lines.new.rest)) result
+        (count_at lines.old.number key.now most lines.old.rest) }
+    ensures within { IfOk result (λ count. count ≤ most) }
+    ensures next { OnOk result (lines.new.number ≡ lines.old.number + 1) }
 {
-    let (text, rest) = next_line(line, bytes)?;
-    let count = count_in(line, key, most, text)?;
-    Ok((count, rest))
+    let line = lines.number();
+    let text = next_line(lines)?;
+    count_in(line, key, most, text)
 }
 
 /// How large the dossier is.
-#[tactic(auto, unfolding(crate::specs::HeadReading::sizes_at))]
-pub fn sizes_at(bytes: &[u8]) -> Result<(Sizes, &[u8]), DossierFault>
-    ensures exact { Gives (λ sizes. (sizes.0, sizes.1.now)) result (sizes_at bytes.now) }
-    ensures within { IfOk result (λ sizes. sizes.0.nodes ≤ 65535) }
+#[tactic(auto, unfolding(crate::specs::inside::HeadReading::sizes_at))]
+pub fn sizes_at(lines: &mut Lines<'_>) -> Result<Sizes, DossierFault>
+    requires { lines.old.number ≡ 3 }
+    ensures exact { Gives (λ sizes. (sizes, lines.new.rest)) result (sizes_at lines.old.rest) }
+    ensures within { IfOk result (λ sizes. sizes.nodes ≤ MOST_NODES) }
+    ensures next { OnOk result (lines.new.number ≡ 5) }
 {
-    let (slots, rest) = count_at(3, b"slots", u32::MAX, bytes)?;
-    let (nodes, rest) = count_at(4, b"nodes", MOST_NODES, rest)?;
-    Ok((Sizes { slots, nodes }, rest))
+    let slots = count_at(b"slots", u32::MAX, lines)?;
+    let nodes = count_at(b"nodes", MOST_NODES, lines)?;
+    Ok(Sizes { slots, nodes })
 }
 
-#[tactic(auto, unfolding(crate::specs::HeadReading::word_in))]
+#[tactic(auto, unfolding(crate::specs::inside::HeadReading::word_in))]
 fn word_in<'a>(line: u32, key: &[u8], text: &'a [u8]) -> Result<&'a [u8], DossierFault>
     ensures { Gives (λ word. word.now) result (word_in line key.now text.now) }
 {
@@ -97,7 +98,7 @@ fn word_in<'a>(line: u32, key: &[u8], text: &'a [u8]) -> Result<&'a [u8], Dossie
     word_at(line, words)
 }
 
-#[tactic(auto, unfolding(crate::specs::HeadReading::answer_of))]
+#[tactic(auto, unfolding(crate::specs::inside::HeadReading::answer_of))]
 fn answer_of(line: u32, word: &[u8]) -> Result<Word3, DossierFault>
     ensures { Gives (λ answer. answer) result (answer_of line word.now) }
 {
@@ -112,17 +113,19 @@ fn answer_of(line: u32, word: &[u8]) -> Result<Word3, DossierFault>
     }
 }
 
-#[tactic(auto, unfolding(crate::specs::HeadReading::answer_at))]
-fn answer_at(bytes: &[u8]) -> Result<(Word3, &[u8]), DossierFault>
-    ensures { Gives (λ answer. (answer.0, answer.1.now)) result (answer_at bytes.now) }
+#[tactic(auto, unfolding(crate::specs::inside::HeadReading::answer_at))]
+fn answer_at(lines: &mut Lines<'_>) -> Result<Word3, DossierFault>
+    requires { lines.old.number ≡ 5 }
+    ensures exact { Gives (λ answer. (answer, lines.new.rest)) result (answer_at lines.old.rest) }
+    ensures next { OnOk result (lines.new.number ≡ 6) }
 {
-    let (text, rest) = next_line(5, bytes)?;
-    let word = word_in(5, b"answer", text)?;
-    let answer = answer_of(5, word)?;
-    Ok((answer, rest))
+    let line = lines.number();
+    let text = next_line(lines)?;
+    let word = word_in(line, b"answer", text)?;
+    answer_of(line, word)
 }
 
-#[tactic(auto, unfolding(crate::specs::HeadReading::claim_of))]
+#[tactic(auto, unfolding(crate::specs::inside::HeadReading::claim_of))]
 fn claim_of(line: u32, word: &[u8]) -> Result<Option<i64>, DossierFault>
     ensures { Gives (λ claim. claim) result (claim_of line word.now) }
 {
@@ -133,59 +136,59 @@ fn claim_of(line: u32, word: &[u8]) -> Result<Option<i64>, DossierFault>
     Ok(Some(number))
 }
 
-#[tactic(auto, unfolding(crate::specs::HeadReading::claimed_at))]
-fn claimed_at<'a>(
-    line: u32,
-    key: &[u8],
-    bytes: &'a [u8],
-) -> Result<(Option<i64>, &'a [u8]), DossierFault>
-    ensures { Gives (λ claim. (claim.0, claim.1.now)) result (claimed_at line key.now bytes.now) }
+#[tactic(auto, unfolding(crate::specs::inside::HeadReading::claimed_at))]
+fn claimed_at(key: &[u8], lines: &mut Lines<'_>) -> Result<Option<i64>, DossierFault>
+    requires { lines.old.number + 1 < 2 ^ 32 }
+    ensures exact { Gives (λ claim. (claim, lines.new.rest)) result
+        (claimed_at lines.old.number key.now lines.old.rest) }
+    ensures next { OnOk result (lines.new.number ≡ lines.old.number + 1) }
 {
-    let (text, rest) = next_line(line, bytes)?;
+    let line = lines.number();
+    let text = next_line(lines)?;
     let word = word_in(line, key, text)?;
-    let claim = claim_of(line, word)?;
-    Ok((claim, rest))
+    claim_of(line, word)
 }
 
 /// What the dossier claims.
-#[tactic(auto, unfolding(crate::specs::HeadReading::claim_at))]
-pub fn claim_at(bytes: &[u8]) -> Result<(Claim, &[u8]), DossierFault>
-    ensures { Gives (λ claim. (claim.0, claim.1.now)) result (claim_at bytes.now) }
+#[tactic(auto, unfolding(crate::specs::inside::HeadReading::claim_at))]
+pub fn claim_at(lines: &mut Lines<'_>) -> Result<Claim, DossierFault>
+    requires { lines.old.number ≡ 5 }
+    ensures exact { Gives (λ claim. (claim, lines.new.rest)) result (claim_at lines.old.rest) }
+    ensures next { OnOk result (lines.new.number ≡ 8) }
 {
-    let (answer, rest) = answer_at(bytes)?;
-    let (margin, rest) = claimed_at(6, b"margin", rest)?;
-    let (bound, rest) = claimed_at(7, b"bound", rest)?;
-    Ok((
-        Claim {
-            answer,
-            margin,
-            bound,
-        },
-        rest,
-    ))
+    let answer = answer_at(lines)?;
+    let margin = claimed_at(b"margin", lines)?;
+    let bound = claimed_at(b"bound", lines)?;
+    Ok(Claim {
+        answer,
+        margin,
+        bound,
+    })
 }
 
-#[tactic(auto, unfolding(crate::specs::HeadReading::plan_count_of))]
+#[tactic(auto, unfolding(crate::specs::inside::HeadReading::plan_count_of))]
 fn plan_count_of(line: u32, word: &[u8]) -> Result<Option<u32>, DossierFault>
     ensures exact { Gives (λ count. count) result (plan_count_of line word.now) }
-    ensures within { IfOk result (λ count. IfSome count (λ few. few ≤ 40)) }
+    ensures within { IfOk result (λ count. IfSome count (λ few. few ≤ MOST_SLOTS)) }
 {
     if word == b"none".as_slice() {
         return Ok(None);
     }
     let count = formed(line, read_decimal(word, BITS_32))? as u32;
-    let few = limited(line, MOST_OPERATIONS, count)?;
+    let few = limited(line, u32::from(MOST_SLOTS), count)?;
     Ok(Some(few))
 }
 
 /// The number of operations, where there is a plan.
-#[tactic(auto, unfolding(crate::specs::HeadReading::plan_count_at))]
-pub fn plan_count_at(bytes: &[u8]) -> Result<(Option<u32>, &[u8]), DossierFault>
-    ensures exact { Gives (λ count. (count.0, count.1.now)) result (plan_count_at bytes.now) }
-    ensures within { IfOk result (λ count. IfSome count.0 (λ few. few ≤ 40)) }
+#[tactic(auto, unfolding(crate::specs::inside::HeadReading::plan_count_at))]
+pub fn plan_count_at(lines: &mut Lines<'_>) -> Result<Option<u32>, DossierFault>
+    requires { lines.old.number ≡ 8 }
+    ensures exact { Gives (λ count. (count, lines.new.rest)) result (plan_count_at lines.old.rest) }
+    ensures within { IfOk result (λ count. IfSome count (λ few. few ≤ MOST_SLOTS)) }
+    ensures next { OnOk result (lines.new.number ≡ 9) }
 {
-    let (text, rest) = next_line(8, bytes)?;
-    let word = word_in(8, b"plan", text)?;
-    let count = plan_count_of(8, word)?;
-    Ok((count, rest))
+    let line = lines.number();
+    let text = next_line(lines)?;
+    let word = word_in(line, b"plan", text)?;
+    plan_count_of(line, word)
 }

@@ -8,8 +8,9 @@
 //!
 //! Begin with `dossier`, `specs/Text` (the text) and `specs/Ranges` (which dossiers are in range). Then read
 //! `reading`, with `specs/Reading` and `specs/Faults` (how the first fault ends it): it goes from the lines
-//! of `head_lines` to those of `cut_lines` and `node_lines`. `writing` goes the same way, with `nodes` and
-//! `entries`.
+//! of `head_lines` to those of `op_lines`, `cut_lines` and `node_lines`, which `list_lines` reads by one loop,
+//! as `list_words` does the words of a line. The steps of that reading are in `specs/inside`. `writing` goes
+//! the same way, with `nodes` and `entries`.
 #![tactic(auto)]
 
 mod cut_lines;
@@ -17,8 +18,11 @@ mod dossier;
 mod entries;
 mod fault;
 mod head_lines;
+mod list_lines;
+mod list_words;
 mod node_lines;
 mod nodes;
+mod op_lines;
 mod reading;
 mod steps;
 mod term_words;

@@ -1,8 +1,9 @@
 ghost use Rattle.std.specs.Prelude.{◌≡◌};
 ghost use Rattle.dossier_text.specs.Faults.{Gives};
-ghost use Rattle.dossier_text.specs.NodeReading.{kind_at, inner_at, dead_at, void_at, dual_at, open_at, point_at, leaf_at, node_words_at, node_at};
+ghost use Rattle.dossier_text.specs.inside.NodeReading.{kind_at, inner_at, dead_at, void_at, dual_at, open_at, point_at, leaf_at, node_words_at, node_at};
 
 use crate::fault::DossierFault;
+use crate::list_lines::LineItem;
 use crate::steps::{BITS_32, formed, number_at};
 use crate::term_words::terms_at;
 use line_text::Words;
@@ -10,7 +11,7 @@ use slot_box::{Leaf, Node, Split, SplitKind};
 use std::alloc::Global;
 
 /// What a box is divided by.
-#[tactic(auto, unfolding(crate::specs::NodeReading::kind_at))]
+#[tactic(auto, unfolding(crate::specs::inside::NodeReading::kind_at))]
 fn kind_at(line: u32, mut words: Words<'_>) -> Result<SplitKind, DossierFault>
     ensures { Gives (λ kind. kind) result (kind_at line words.entry) }
 {
@@ -29,7 +30,7 @@ fn kind_at(line: u32, mut words: Words<'_>) -> Result<SplitKind, DossierFault>
 }
 
 /// The inner node that the words say.
-#[tactic(auto, unfolding(crate::specs::NodeReading::inner_at))]
+#[tactic(auto, unfolding(crate::specs::inside::NodeReading::inner_at))]
 fn inner_at(line: u32, mut words: Words<'_>) -> Result<Node, DossierFault>
     ensures { Gives (λ node. node) result (inner_at line words.entry) }
 {
@@ -42,7 +43,7 @@ fn inner_at(line: u32, mut words: Words<'_>) -> Result<Node, DossierFault>
     })
 }
 
-#[tactic(auto, unfolding(crate::specs::NodeReading::dead_at))]
+#[tactic(auto, unfolding(crate::specs::inside::NodeReading::dead_at))]
 fn dead_at(line: u32, words: Words<'_>) -> Result<Leaf, DossierFault>
     ensures { Gives (λ leaf. leaf) result (dead_at line words.entry) }
 {
@@ -50,7 +51,7 @@ fn dead_at(line: u32, words: Words<'_>) -> Result<Leaf, DossierFault>
     Ok(Leaf::Dead { at })
 }
 
-#[tactic(auto, unfolding(crate::specs::NodeReading::void_at))]
+#[tactic(auto, unfolding(crate::specs::inside::NodeReading::void_at))]
 fn void_at(alloc: Global, line: u32, words: Words<'_>) -> Result<Leaf, DossierFault>
     ensures { Gives (λ leaf. leaf) result (void_at line words.entry) }
 {
@@ -58,7 +59,7 @@ fn void_at(alloc: Global, line: u32, words: Words<'_>) -> Result<Leaf, DossierFa
     Ok(Leaf::Void { terms })
 }
 
-#[tactic(auto, unfolding(crate::specs::NodeReading::dual_at))]
+#[tactic(auto, unfolding(crate::specs::inside::NodeReading::dual_at))]
 fn dual_at(alloc: Global, line: u32, mut words: Words<'_>) -> Result<Leaf, DossierFault>
     ensures { Gives (λ leaf. leaf) result (dual_at line words.entry) }
 {
@@ -67,7 +68,7 @@ fn dual_at(alloc: Global, line: u32, mut words: Words<'_>) -> Result<Leaf, Dossi
     Ok(Leaf::Dual { q, terms })
 }
 
-#[tactic(auto, unfolding(crate::specs::NodeReading::open_at))]
+#[tactic(auto, unfolding(crate::specs::inside::NodeReading::open_at))]
 fn open_at(alloc: Global, line: u32, mut words: Words<'_>) -> Result<Leaf, DossierFault>
     ensures { Gives (λ leaf. leaf) result (open_at line words.entry) }
 {
@@ -76,7 +77,7 @@ fn open_at(alloc: Global, line: u32, mut words: Words<'_>) -> Result<Leaf, Dossi
     Ok(Leaf::Undone { q, terms })
 }
 
-#[tactic(auto, unfolding(crate::specs::NodeReading::point_at))]
+#[tactic(auto, unfolding(crate::specs::inside::NodeReading::point_at))]
 fn point_at(line: u32, mut words: Words<'_>) -> Result<Leaf, DossierFault>
     ensures { Gives (λ leaf. leaf) result (point_at line words.entry) }
 {
@@ -85,7 +86,7 @@ fn point_at(line: u32, mut words: Words<'_>) -> Result<Leaf, DossierFault>
 }
 
 /// The leaf that the word names.
-#[tactic(auto, unfolding(crate::specs::NodeReading::leaf_at))]
+#[tactic(auto, unfolding(crate::specs::inside::NodeReading::leaf_at))]
 fn leaf_at(alloc: Global, line: u32, word: &[u8], words: Words<'_>) -> Result<Leaf, DossierFault>
     ensures { Gives (λ leaf. leaf) result (leaf_at line word.now words.entry) }
 {
@@ -105,7 +106,7 @@ fn leaf_at(alloc: Global, line: u32, word: &[u8], words: Words<'_>) -> Result<Le
 }
 
 /// The node that the words behind its id say.
-#[tactic(auto, unfolding(crate::specs::NodeReading::node_words_at))]
+#[tactic(auto, unfolding(crate::specs::inside::NodeReading::node_words_at))]
 fn node_words_at(alloc: Global, line: u32, mut words: Words<'_>) -> Result<Node, DossierFault>
     ensures { Gives (λ node. node) result (node_words_at line words.entry) }
 {
@@ -118,8 +119,8 @@ fn node_words_at(alloc: Global, line: u32, mut words: Words<'_>) -> Result<Node,
 }
 
 /// What the text of a node's line says, where it has this id.
-#[tactic(auto, unfolding(crate::specs::NodeReading::node_at))]
-pub fn node_at(alloc: Global, line: u32, id: u32, text: &[u8]) -> Result<Node, DossierFault>
+#[tactic(auto, unfolding(crate::specs::inside::NodeReading::node_at))]
+fn node_at(alloc: Global, line: u32, id: u32, text: &[u8]) -> Result<Node, DossierFault>
     ensures { Gives (λ node. node) result (node_at line id text.now) }
 {
     let mut words = Words::new(text);
@@ -129,5 +130,13 @@ pub fn node_at(alloc: Global, line: u32, id: u32, text: &[u8]) -> Result<Node, D
         node_words_at(alloc, line, words)
     } else {
         Err(DossierFault::Line(line))
+    }
+}
+
+impl LineItem for Node {
+    ghost said = { node_at };
+
+    fn read(alloc: Global, line: u32, index: u32, text: &[u8]) -> Result<Node, DossierFault> {
+        node_at(alloc, line, index, text)
     }
 }

@@ -80,7 +80,8 @@ fn write_node(out: &mut Vec<u8>, node: &Node) -> Result<(), AllocError>
 }
 
 fn write_node_line(out: &mut Vec<u8>, id: u64, node: &Node) -> Result<(), AllocError>
-    ensures { OnOk result (out.new.items ≡ out.old.items ++ (line_of (codes "node" ∷ decimal id ∷ node_words node.now) ++ 10 ∷ [])) }
+    ensures { OnOk result (out.new.items ≡ out.old.items
+        ++ (line_of (codes "node" ∷ decimal id ∷ node_words node.now) ++ 10 ∷ [])) }
 {
     push_text(out, b"node")?;
     push_number(out, id)?;

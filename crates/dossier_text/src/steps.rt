@@ -1,10 +1,10 @@
-ghost use Rattle.std.specs.Prelude.{◌≡◌, ◌≤◌, [], ◌∷◌, ◌++◌, OnOk, IfOk, IfErr};
+ghost use Rattle.std.specs.Prelude.{◌≡◌, ◌≤◌, ◌<◌, ◌+◌, ◌^◌, [], ◌∷◌, ◌++◌, OnOk, IfOk, IfErr};
 ghost use Rattle.dossier_text.specs.Faults.{formed, limited, line_at, Gives};
-ghost use Rattle.dossier_text.specs.WordReading.{word_at, number_at};
+ghost use Rattle.dossier_text.specs.inside.WordReading.{word_at, number_at};
 
 use crate::fault::DossierFault;
 use item_lists::Items;
-use line_text::{Words, split_at_mark};
+use line_text::{Lines, Words};
 
 /// The greatest number of 32 bits.
 pub const BITS_32: u64 = 0xffff_ffff;
@@ -30,15 +30,17 @@ pub fn limited(line: u32, most: u32, count: u32) -> Result<u32, DossierFault>
     }
 }
 
-/// The next line without its line feed, and what stands behind that.
-pub fn next_line(line: u32, bytes: &[u8]) -> Result<(&[u8], &[u8]), DossierFault>
-    ensures { Gives (λ parts. (parts.0.now, parts.1.now)) result (line_at line bytes.now) }
+/// The next line without its line feed.
+pub fn next_line<'a>(lines: &mut Lines<'a>) -> Result<&'a [u8], DossierFault>
+    requires { lines.old.number + 1 < 2 ^ 32 }
+    ensures exact { Gives (λ text. (text.now, lines.new.rest)) result (line_at lines.old.number lines.old.rest) }
+    ensures next { OnOk result (lines.new.number ≡ lines.old.number + 1) }
 {
-    formed(line, split_at_mark(bytes, b'\n'))
+    formed(lines.number(), lines.next_line())
 }
 
 /// The number that the one word left is.
-#[tactic(auto, unfolding(crate::specs::WordReading::number_at))]
+#[tactic(auto, unfolding(crate::specs::inside::WordReading::number_at))]
 pub fn number_at(line: u32, limit: u64, mut words: Words<'_>) -> Result<u64, DossierFault>
     ensures exact { Gives (λ number. number) result (number_at line limit words.entry) }
     ensures within { IfOk result (λ number. number ≤ limit) }
@@ -49,7 +51,7 @@ pub fn number_at(line: u32, limit: u64, mut words: Words<'_>) -> Result<u64, Dos
 }
 
 /// The one word left.
-#[tactic(auto, unfolding(crate::specs::WordReading::word_at))]
+#[tactic(auto, unfolding(crate::specs::inside::WordReading::word_at))]
 pub fn word_at<'a>(line: u32, mut words: Words<'a>) -> Result<&'a [u8], DossierFault>
     ensures { Gives (λ word. word.now) result (word_at line words.entry) }
 {

@@ -1,9 +1,11 @@
 ghost use Rattle.std.specs.Prelude.{◌≡◌};
 ghost use Rattle.dossier_text.specs.Faults.{Gives};
-ghost use Rattle.dossier_text.specs.TermReading.{row_of, cut_row_of, term_of, terms_at};
+ghost use Rattle.dossier_text.specs.inside.TermReading.{row_of, cut_row_of, term_of, terms_at};
 
 use crate::fault::DossierFault;
-use crate::steps::{BITS_32, formed};
+use crate::list_words::{WordItem, few_words};
+use crate::steps::BITS_32;
+use limits::MOST_ROWS;
 use line_text::{Words, read_before, read_decimal, split_at_mark};
 use slot_box::{RowName, Term, Terms};
 use std::alloc::Global;
@@ -12,11 +14,8 @@ const BITS_8: u64 = 0xff;
 
 const BITS_16: u64 = 0xffff;
 
-/// The most entries of a leaf.
-const MOST_TERMS: usize = 512;
-
 /// The row of which the family's digits, and the rest behind the dot, are given.
-#[tactic(auto, unfolding(crate::specs::TermReading::row_of))]
+#[tactic(auto, unfolding(crate::specs::inside::TermReading::row_of))]
 fn row_of(digits: &[u8], rest: &[u8]) -> Option<Term>
     ensures { result ≡ row_of digits.now rest.now }
 {
@@ -39,7 +38,7 @@ fn row_of(digits: &[u8], rest: &[u8]) -> Option<Term>
 }
 
 /// The row of a cut of which the rest behind `cut` and the dot is given.
-#[tactic(auto, unfolding(crate::specs::TermReading::cut_row_of))]
+#[tactic(auto, unfolding(crate::specs::inside::TermReading::cut_row_of))]
 fn cut_row_of(rest: &[u8]) -> Option<Term>
     ensures { result ≡ cut_row_of rest.now }
 {
@@ -56,7 +55,7 @@ fn cut_row_of(rest: &[u8]) -> Option<Term>
 }
 
 /// The entry that the word is.
-#[tactic(auto, unfolding(crate::specs::TermReading::term_of))]
+#[tactic(auto, unfolding(crate::specs::inside::TermReading::term_of))]
 fn term_of(word: &[u8]) -> Option<Term>
     ensures { result ≡ term_of word.now }
 {
@@ -68,23 +67,17 @@ fn term_of(word: &[u8]) -> Option<Term>
     }
 }
 
+impl WordItem for Term {
+    ghost said = { term_of };
+
+    fn read(word: &[u8]) -> Option<Term> {
+        term_of(word)
+    }
+}
+
 /// The entries that the words are.
 pub fn terms_at(alloc: Global, line: u32, words: Words<'_>) -> Result<Terms, DossierFault>
     ensures { Gives (λ terms. terms) result (terms_at line words.entry) }
 {
-    let mut terms = Terms::new(alloc);
-    let mut too_many = false;
-    for word in words {
-        let term = formed(line, term_of(word))?;
-        if terms.as_slice().len() < MOST_TERMS {
-            terms.push(term).map_err(|_| DossierFault::Memory)?;
-        } else {
-            too_many = true;
-        }
-    }
-    if too_many {
-        Err(DossierFault::TooMany(line))
-    } else {
-        Ok(terms)
-    }
+    few_words(alloc, line, MOST_ROWS, words)
 }

@@ -12,7 +12,8 @@ use plan_text::{OpLine, OpLines, push_op_line};
 use std::alloc::{AllocError, Global};
 
 fn write_answer(out: &mut Vec<u8>, answer: Word3) -> Result<(), AllocError>
-    ensures { OnOk result (out.new.items ≡ out.old.items ++ (line_of (codes "answer" ∷ answer_word answer ∷ []) ++ 10 ∷ [])) }
+    ensures { OnOk result (out.new.items ≡ out.old.items
+        ++ (line_of (codes "answer" ∷ answer_word answer ∷ []) ++ 10 ∷ [])) }
 {
     match answer {
         Word3::Plan => push_text(out, b"answer plan\n"),

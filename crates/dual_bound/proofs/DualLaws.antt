@@ -27,18 +27,22 @@ term-sum extent point term there =
     let f = λ (j : ℕ). factor_in extent j term *ℤ point (column_at extent j) in
     let single = total_below-single (count_of extent) (number_of extent term.column) f (number-below extent term.column there)
     (λ k below (elsewhere : k ≡ number_of extent term.column → ⊥).
-    ap (λ (z : ℤ). z *ℤ point (column_at extent k)) (factor_in-elsewhere extent k term (λ (same : number_of extent term.column ≡ k). elsewhere (sym same))) ∙ zero-*ℤ (point (column_at extent k))) in
-    let factor = ap (λ (z : ℤ). z *ℤ point (column_at extent (number_of extent term.column))) (factor_in-here extent (number_of extent term.column) term refl) in
+    ap (λ (z : ℤ). z *ℤ point (column_at extent k)) (factor_in-elsewhere extent k term (λ (same : number_of extent term.column ≡ k). elsewhere (sym same)))
+    ∙ zero-*ℤ (point (column_at extent k))) in
+    let factor = ap (λ (z : ℤ). z *ℤ point (column_at extent (number_of extent term.column)))
+    (factor_in-here extent (number_of extent term.column) term refl) in
     let column = ap (λ c. term.factor *ℤ point c) (number-back extent term.column there) in
     single ∙ (factor ∙ column)
 
 pub terms-sum : (extent : Extent) (point : Point) (terms : List RowTerm) → AreColumns extent terms →
     total_below (count_of extent) (λ j. factor_of extent j terms *ℤ point (column_at extent j)) ≡ value_at terms point
-terms-sum extent point [] columns = total_below-zeros (count_of extent) (λ j. pos 0 *ℤ point (column_at extent j)) (λ j below. zero-*ℤ (point (column_at extent j)))
+terms-sum extent point [] columns =
+    total_below-zeros (count_of extent) (λ j. pos 0 *ℤ point (column_at extent j)) (λ j below. zero-*ℤ (point (column_at extent j)))
 terms-sum extent point (term ∷ terms) columns =
     let n = count_of extent in
     let x = λ (j : ℕ). point (column_at extent j) in
-    let split = total_below-same n (λ j. (factor_in extent j term +ℤ factor_of extent j terms) *ℤ x j) (λ j. (factor_in extent j term *ℤ x j) +ℤ (factor_of extent j terms *ℤ x j))
+    let split = total_below-same n (λ j. (factor_in extent j term +ℤ factor_of extent j terms) *ℤ x j)
+    (λ j. (factor_in extent j term *ℤ x j) +ℤ (factor_of extent j terms *ℤ x j))
     (λ j below. sum-product (factor_in extent j term) (factor_of extent j terms) (x j)) in
     let parts = total_below-sum n (λ j. factor_in extent j term *ℤ x j) (λ j. factor_of extent j terms *ℤ x j) in
     let first = term-sum extent point term (All-head (λ (t : RowTerm). IsColumn extent t.column) term terms columns) in
@@ -51,8 +55,10 @@ rows_at point ys rows = total_by_pairs (λ y row. pos y *ℤ value_at row.terms 
 
 pub rows-sum : (extent : Extent) (point : Point) (ys : List ℕ) (rows : List RowForm) → All (λ row. AreColumns extent row.terms) rows →
     total_below (count_of extent) (λ j. weighed_factor extent ys rows j *ℤ point (column_at extent j)) ≡ rows_at point ys rows
-rows-sum extent point [] rows columns = total_below-zeros (count_of extent) (λ j. pos 0 *ℤ point (column_at extent j)) (λ j below. zero-*ℤ (point (column_at extent j)))
-rows-sum extent point (y ∷ ys) [] columns = total_below-zeros (count_of extent) (λ j. pos 0 *ℤ point (column_at extent j)) (λ j below. zero-*ℤ (point (column_at extent j)))
+rows-sum extent point [] rows columns =
+    total_below-zeros (count_of extent) (λ j. pos 0 *ℤ point (column_at extent j)) (λ j below. zero-*ℤ (point (column_at extent j)))
+rows-sum extent point (y ∷ ys) [] columns =
+    total_below-zeros (count_of extent) (λ j. pos 0 *ℤ point (column_at extent j)) (λ j below. zero-*ℤ (point (column_at extent j)))
 rows-sum extent point (y ∷ ys) (row ∷ rows) columns =
     let n = count_of extent in
     let x = λ (j : ℕ). point (column_at extent j) in
@@ -76,8 +82,10 @@ rows-below point (y ∷ ys) (row ∷ rows) met =
 
 -- ---- the weights at a point
 
-weights-sum : (extent : Extent) (rows : List RowForm) (objective : List RowTerm) (ys : List ℕ) (q : ℕ) (point : Point) → All (λ row. AreColumns extent row.terms) rows → AreColumns extent objective →
-    total_below (count_of extent) (λ j. weight_of extent rows objective ys q j *ℤ point (column_at extent j)) ≡ (pos q *ℤ value_at objective point) -ℤ rows_at point ys rows
+weights-sum : (extent : Extent) (rows : List RowForm) (objective : List RowTerm) (ys : List ℕ) (q : ℕ) (point : Point) →
+    All (λ row. AreColumns extent row.terms) rows → AreColumns extent objective →
+    total_below (count_of extent) (λ j. weight_of extent rows objective ys q j *ℤ point (column_at extent j))
+    ≡ (pos q *ℤ value_at objective point) -ℤ rows_at point ys rows
 weights-sum extent rows objective ys q point columns goals =
     let n = count_of extent in
     let x = λ (j : ℕ). point (column_at extent j) in
@@ -91,7 +99,8 @@ weights-sum extent rows objective ys q point columns goals =
     let second = rows-sum extent point ys rows columns in
     omega (arith, ints, split, parts, scaled, first, second)
 
-weights-below : (bounds : Bounds) (rows : List RowForm) (objective : List RowTerm) (ys : List ℕ) (q : ℕ) (point : Point) → bounds.extent.ops ≤ 255 → LiesIn bounds point →
+weights-below : (bounds : Bounds) (rows : List RowForm) (objective : List RowTerm) (ys : List ℕ) (q : ℕ) (point : Point) → bounds.extent.ops ≤ 255 →
+    LiesIn bounds point →
     total_below (count_of bounds.extent) (λ j. weight_of bounds.extent rows objective ys q j *ℤ point (column_at bounds.extent j))
     ≤ℤ total_below (count_of bounds.extent) (λ j. most_in (range_at bounds j) (weight_of bounds.extent rows objective ys q j))
 weights-below bounds rows objective ys q point few inside =
@@ -100,7 +109,8 @@ weights-below bounds rows objective ys q point few inside =
     (λ j below. let column = column_at bounds.extent j in
     let ends = inside column (column-there bounds.extent j below) in
     let same : range_of bounds column ≡ range_at bounds j = ap (range_at bounds) (column-again bounds.extent j few below) in
-    most_in-above (weight_of bounds.extent rows objective ys q j) (range_at bounds j).lo (range_at bounds j).hi (point column) (rw same at ends.0) (rw same at ends.1))
+    most_in-above (weight_of bounds.extent rows objective ys q j) (range_at bounds j).lo (range_at bounds j).hi (point column) (rw same at ends.0)
+    (rw same at ends.1))
 
 -- the objective of a point, q times, is at most the sum
 pub sum-above : (rows : List RowForm) (bounds : Bounds) (objective : List RowTerm) (ys : List ℕ) (q : ℕ) (point : Point) → bounds.extent.ops ≤ 255 →
@@ -113,9 +123,11 @@ sum-above rows bounds objective ys q point few columns goals met inside =
     omega (arith, ints, whole, most, rights)
 
 pub value-bounds_points : (rows : List RowForm) (bounds : Bounds) (objective : List RowTerm) (ys : List ℕ) (q : ℕ) → bounds.extent.ops ≤ 255 → 0 < q →
-    All (λ row. AreColumns bounds.extent row.terms) rows → AreColumns bounds.extent objective → BoundsPoints rows bounds objective (dual_value rows bounds objective ys q)
+    All (λ row. AreColumns bounds.extent row.terms) rows → AreColumns bounds.extent objective →
+    BoundsPoints rows bounds objective (dual_value rows bounds objective ys q)
 value-bounds_points rows bounds objective ys q few some columns goals = λ point met inside.
-    (floors_are_greatest (dual_sum rows bounds objective ys q) q some).greatest (value_at objective point) (sum-above rows bounds objective ys q point few columns goals met inside)
+    (floors_are_greatest (dual_sum rows bounds objective ys q) q some).greatest (value_at objective point)
+    (sum-above rows bounds objective ys q point few columns goals met inside)
 
 pub negative-has_no_point : (rows : List RowForm) (bounds : Bounds) (ys : List ℕ) → bounds.extent.ops ≤ 255 →
     All (λ row. AreColumns bounds.extent row.terms) rows → emptiness_sum rows bounds ys <ℤ pos 0 → HasNoPoint rows bounds
@@ -134,18 +146,23 @@ narrower-same : (rows : List RowForm) (inner outer : Bounds) (objective : List R
     total_below (count_of outer.extent) (λ j. most_in (range_at inner j) (weight_of outer.extent rows objective ys q j))
     ≤ℤ total_below (count_of outer.extent) (λ j. most_in (range_at outer j) (weight_of outer.extent rows objective ys q j))
 narrower-same rows inner outer objective ys q few within =
-    total_below-le (count_of outer.extent) (λ j. most_in (range_at inner j) (weight_of outer.extent rows objective ys q j)) (λ j. most_in (range_at outer j) (weight_of outer.extent rows objective ys q j))
+    total_below-le (count_of outer.extent) (λ j. most_in (range_at inner j) (weight_of outer.extent rows objective ys q j))
+    (λ j. most_in (range_at outer j) (weight_of outer.extent rows objective ys q j))
     (λ j below. let column = column_at outer.extent j in
     let ends = within.inside column (column-there outer.extent j below) in
     let number = column-again outer.extent j few below in
     let outside : range_of outer column ≡ range_at outer j = ap (range_at outer) number in
-    let inside : range_of inner column ≡ range_at inner j = ap (λ extent. range_at inner (number_of extent column)) within.same_columns ∙ ap (range_at inner) number in
-    most_in-narrower (weight_of outer.extent rows objective ys q j) (range_at inner j) (range_at outer j) (rw (outside, inside) at ends.0) (rw inside at ends.1) (rw (outside, inside) at ends.2))
+    let inside : range_of inner column ≡ range_at inner j = ap (λ extent. range_at inner (number_of extent column)) within.same_columns
+    ∙ ap (range_at inner) number in
+    most_in-narrower (weight_of outer.extent rows objective ys q j) (range_at inner j) (range_at outer j) (rw (outside, inside) at ends.0)
+    (rw inside at ends.1) (rw (outside, inside) at ends.2))
 
 pub value-bounds_narrower : (rows : List RowForm) (bounds : Bounds) (objective : List RowTerm) (ys : List ℕ) (q : ℕ) → bounds.extent.ops ≤ 255 → 0 < q →
     BoundsNarrower rows bounds objective ys q (dual_value rows bounds objective ys q)
 value-bounds_narrower rows bounds objective ys q few some = λ inner within.
     let parts = narrower-same rows inner bounds objective ys q few within in
-    let same : dual_sum rows inner objective ys q ≡ weighed_right ys rows +ℤ total_below (count_of bounds.extent) (λ j. most_in (range_at inner j) (weight_of bounds.extent rows objective ys q j)) =
-    ap (λ extent. weighed_right ys rows +ℤ total_below (count_of extent) (λ j. most_in (range_at inner j) (weight_of extent rows objective ys q j))) within.same_columns in
+    let same : dual_sum rows inner objective ys q ≡ weighed_right ys rows
+    +ℤ total_below (count_of bounds.extent) (λ j. most_in (range_at inner j) (weight_of bounds.extent rows objective ys q j)) =
+    ap (λ extent. weighed_right ys rows +ℤ total_below (count_of extent) (λ j. most_in (range_at inner j) (weight_of extent rows objective ys q j)))
+    within.same_columns in
     floor-le (dual_sum rows inner objective ys q) (dual_sum rows bounds objective ys q) q some (omega (arith, ints, parts, same))

@@ -7,7 +7,7 @@ use Rattle.linear_form.specs.Bounds.{zero_alone}
 use Rattle.number_laws.specs.SignedSums.{total_below}
 use Rattle.number_laws.proofs.ProductLaws.{product-monotone, negative-product}
 use Rattle.number_laws.proofs.SignedSumLaws.{total_below-abs}
-use Rattle.dual_bound.specs.Cells.{HaveRoom}
+use Rattle.dual_bound.specs.inside.Cells.{HaveRoom}
 use Rattle.dual_bound.specs.Conditions.{reach_of}
 use Rattle.dual_bound.specs.Dual.{most_in}
 
@@ -48,7 +48,8 @@ pub most_in-above : (weight lo hi x : ℤ) → lo ≤ℤ x → x ≤ℤ hi → (
 most_in-above (pos n) lo hi x from to = between_up n lo hi x from to
 most_in-above (negsuc n) lo hi x from to = between_down (suc n) lo hi x from to
 
-pub most_in-narrower : (weight : ℤ) (inner outer : Interval) → outer.lo ≤ℤ inner.lo → inner.lo ≤ℤ inner.hi → inner.hi ≤ℤ outer.hi → most_in inner weight ≤ℤ most_in outer weight
+pub most_in-narrower : (weight : ℤ) (inner outer : Interval) → outer.lo ≤ℤ inner.lo → inner.lo ≤ℤ inner.hi → inner.hi ≤ℤ outer.hi →
+    most_in inner weight ≤ℤ most_in outer weight
 most_in-narrower weight inner outer low order high =
     let first = most_in-above weight outer.lo outer.hi inner.lo low (omega (arith, ints)) in
     let second = most_in-above weight outer.lo outer.hi inner.hi (omega (arith, ints)) high in

@@ -10,14 +10,15 @@ use Rattle.linear_form.specs.Columns.{Extent, IsColumn, number_of}
 use Rattle.linear_form.specs.Rows.{RowForm, HasEachOnce}
 use Rattle.linear_form.proofs.ColumnLaws.{number-same}
 use Rattle.number_laws.proofs.SignedSumLaws.{abs-sum, abs-negative}
-use Rattle.dual_bound.specs.Cells.{Adds, AreWithin, HasSmallFactors}
+use Rattle.dual_bound.specs.inside.Cells.{Adds, AreWithin, HasSmallFactors}
 use Rattle.dual_bound.specs.Conditions.{AreColumns}
 use Rattle.dual_bound.specs.Dual.{factor_of, weighed_factor}
 use Rattle.dual_bound.proofs.CellLaws.{factor_in-here, factor_in-elsewhere, adds-within}
 use Rattle.dual_bound.proofs.StoredNumbers.{abs-product}
 
 -- no term has the number
-pub factor-elsewhere : (extent : Extent) (j : ℕ) (terms : List RowTerm) → All (λ term. number_of extent term.column ≢ j) terms → factor_of extent j terms ≡ pos 0
+pub factor-elsewhere : (extent : Extent) (j : ℕ) (terms : List RowTerm) → All (λ term. number_of extent term.column ≢ j) terms →
+    factor_of extent j terms ≡ pos 0
 factor-elsewhere extent j [] elsewhere = refl
 factor-elsewhere extent j (term ∷ terms) elsewhere =
     let first = factor_in-elsewhere extent j term (All-head (λ (t : RowTerm). number_of extent t.column ≢ j) term terms elsewhere) in
@@ -37,7 +38,8 @@ once-take (suc n) (term ∷ terms) once = (All-take (λ (other : RowTerm). other
 
 -- where each column stands once, its factor is that of one term, or 0
 pub factor-limit : (extent : Extent) (scale : ℕ → ℕ) (limit : ℕ) (terms : List RowTerm) → AreColumns extent terms → HasEachOnce terms →
-    All (λ term. unsigned_abs term.factor * scale (number_of extent term.column) ≤ limit) terms → (j : ℕ) → unsigned_abs (factor_of extent j terms) * scale j ≤ limit
+    All (λ term. unsigned_abs term.factor * scale (number_of extent term.column) ≤ limit) terms → (j : ℕ) →
+    unsigned_abs (factor_of extent j terms) * scale j ≤ limit
 factor-limit extent scale limit [] columns once small j = omega arith
 factor-limit extent scale limit (term ∷ terms) columns once small j =
     let P = λ (t : RowTerm). unsigned_abs t.factor * scale (number_of extent t.column) ≤ limit in
@@ -49,7 +51,8 @@ factor-limit extent scale limit (term ∷ terms) columns once small j =
           let none : factor_of extent j terms ≡ pos 0 = factor-elsewhere extent j terms (rw here at numbers) in
           let whole : factor_of extent j (term ∷ terms) ≡ term.factor = let first = factor_in-here extent j term here in omega (arith, ints, first, none) in
           rw whole (rw here at (All-head P term terms small))
-      | inr elsewhere ↦ let whole : factor_of extent j (term ∷ terms) ≡ factor_of extent j terms = let first = factor_in-elsewhere extent j term elsewhere in omega (arith, ints, first) in
+      | inr elsewhere ↦ let whole : factor_of extent j (term ∷ terms) ≡ factor_of extent j terms = let first = factor_in-elsewhere extent j term elsewhere in
+          omega (arith, ints, first) in
           rw whole rest
     ]
 
@@ -65,7 +68,8 @@ weighed-step : (y : ℕ) (factor rest : ℤ) (s limit n : ℕ) → y ≤ 2 ^ 32 
     unsigned_abs ((pos y *ℤ factor) +ℤ rest) * s ≤ suc n * (2 ^ 32 * limit)
 weighed-step y factor rest s limit n most small others =
     let size : unsigned_abs (pos y *ℤ factor) ≡ y * unsigned_abs factor = unsigned_abs-mul (pos y) factor in
-    let sum = scaled-le (unsigned_abs ((pos y *ℤ factor) +ℤ rest)) (y * unsigned_abs factor + unsigned_abs rest) s (omega (arith, size, abs-sum (pos y *ℤ factor) rest)) in
+    let sum = scaled-le (unsigned_abs ((pos y *ℤ factor) +ℤ rest)) (y * unsigned_abs factor + unsigned_abs rest) s
+    (omega (arith, size, abs-sum (pos y *ℤ factor) rest)) in
     let first = times-le y (2 ^ 32) (unsigned_abs factor * s) limit most small in
     omega (arith, sum, first, others)
 
@@ -89,7 +93,8 @@ unscaled terms small = λ k d below. let here = small k d below in omega (arith,
 pub prefix-small : (extent : Extent) (i : ℕ) (terms : List RowTerm) → AreColumns extent terms → HasEachOnce terms →
     All (λ term. unsigned_abs term.factor ≤ 2 ^ 63) (take i terms) → (j : ℕ) → unsigned_abs (factor_of extent j (take i terms)) ≤ 2 ^ 63
 prefix-small extent i terms columns once small j =
-    let limit = factor-limit extent (λ (n : ℕ). 1) (2 ^ 63) (take i terms) (All-take (λ (t : RowTerm). IsColumn extent t.column) i terms columns) (once-take i terms once)
+    let limit = factor-limit extent (λ (n : ℕ). 1) (2 ^ 63) (take i terms) (All-take (λ (t : RowTerm). IsColumn extent t.column) i terms columns)
+    (once-take i terms once)
     (unscaled (take i terms) small) j in
     omega (arith, limit)
 
@@ -98,7 +103,8 @@ pub prefix-within : (extent : Extent) (times : ℤ) (from i : ℕ) (terms : List
     Adds (λ k. times *ℤ factor_of extent (from + k) (take i terms)) old new → AreWithin (2 ^ 126) new
 prefix-within extent times from i terms old new columns once small few room added =
     adds-within (λ k. times *ℤ factor_of extent (from + k) (take i terms)) old new (2 ^ 125) (2 ^ 32 * 2 ^ 63) (2 ^ 126) added room
-    (λ k. abs-product times (factor_of extent (from + k) (take i terms)) (2 ^ 32) (2 ^ 63) few (prefix-small extent i terms columns once small (from + k))) (omega arith)
+    (λ k. abs-product times (factor_of extent (from + k) (take i terms)) (2 ^ 32) (2 ^ 63) few (prefix-small extent i terms columns once small (from + k)))
+    (omega arith)
 
 each-small : (extent : Extent) (rows : List RowForm) → All (λ row. HasSmallFactors extent row.terms) rows →
     All (λ row. (j : ℕ) → unsigned_abs (factor_of extent j row.terms) * 1 ≤ 2 ^ 63) rows
@@ -109,7 +115,8 @@ pub rows-within : (extent : Extent) (from r : ℕ) (ys : List ℕ) (rows : List 
     Adds (λ k. neg_ℤ (weighed_factor extent (take r ys) (take r rows) (from + k))) old new → AreWithin (2 ^ 125) new
 rows-within extent from r ys rows old new within few there small room added =
     adds-within (λ k. neg_ℤ (weighed_factor extent (take r ys) (take r rows) (from + k))) old new (2 ^ 95) (512 * (2 ^ 32 * 2 ^ 63)) (2 ^ 125) added room
-    (λ k. let limit = weighed-limit extent (λ (n : ℕ). 1) (2 ^ 63) (take r ys) (take r rows) (All-take (λ (n : ℕ). n ≤ 2 ^ 32) r ys within) (each-small extent (take r rows) small) (from + k) in
+    (λ k. let limit = weighed-limit extent (λ (n : ℕ). 1) (2 ^ 63) (take r ys) (take r rows) (All-take (λ (n : ℕ). n ≤ 2 ^ 32) r ys within)
+    (each-small extent (take r rows) small) (from + k) in
     let size = abs-negative (weighed_factor extent (take r ys) (take r rows) (from + k)) in
     let count = length-take-le r rows there in
     omega (arith, limit, size, count))

@@ -13,20 +13,23 @@ use Rattle.number_laws.specs.SignedSums.{total_below, total_by, total_by_pairs}
 use Rattle.number_laws.proofs.SignedSumLaws.{total_below-same, total_below-sum, total_below-difference, total_below-single, total_below-zeros}
 use Rattle.dual_bound.specs.Conditions.{AreColumns}
 use Rattle.dual_bound.specs.Dual.{factor_of, weight_of, most_in, range_at, dual_sum}
-use Rattle.dual_bound.specs.Improving.{single, change_of}
+use Rattle.dual_bound.specs.Improving.{single}
+use Rattle.dual_bound.specs.inside.Steps.{change_of}
 use Rattle.dual_bound.proofs.CellLaws.{factor_in-here, factor_in-elsewhere}
 use Rattle.dual_bound.proofs.FactorLaws.{apart-numbers, factor-elsewhere}
 
 -- ---- a sum over columns that only the terms' columns change
 
-factor-other : (extent : Extent) (j : ℕ) (term : RowTerm) (terms : List RowTerm) → number_of extent term.column ≢ j → factor_of extent j (term ∷ terms) ≡ factor_of extent j terms
+factor-other : (extent : Extent) (j : ℕ) (term : RowTerm) (terms : List RowTerm) → number_of extent term.column ≢ j →
+    factor_of extent j (term ∷ terms) ≡ factor_of extent j terms
 factor-other extent j term terms elsewhere = let first = factor_in-elsewhere extent j term elsewhere in omega (arith, ints, first)
 
 factor-first : (extent : Extent) (term : RowTerm) (terms : List RowTerm) → factor_of extent (number_of extent term.column) terms ≡ pos 0 →
     factor_of extent (number_of extent term.column) (term ∷ terms) ≡ term.factor
 factor-first extent term terms none = let first = factor_in-here extent (number_of extent term.column) term refl in omega (arith, ints, first, none)
 
-pub factors-sum : (extent : Extent) (change : ℕ → ℤ → ℤ) (terms : List RowTerm) → ((j : ℕ) → change j (pos 0) ≡ pos 0) → AreColumns extent terms → HasEachOnce terms →
+pub factors-sum : (extent : Extent) (change : ℕ → ℤ → ℤ) (terms : List RowTerm) → ((j : ℕ) → change j (pos 0) ≡ pos 0) → AreColumns extent terms →
+    HasEachOnce terms →
     total_below (count_of extent) (λ j. change j (factor_of extent j terms)) ≡ total_by (λ term. change (number_of extent term.column) term.factor) terms
 factors-sum extent change [] none columns once = total_below-zeros (count_of extent) (λ j. change j (pos 0)) (λ j below. none j)
 factors-sum extent change (term ∷ terms) none columns once =
@@ -40,7 +43,8 @@ factors-sum extent change (term ∷ terms) none columns once =
     let empty = factor-elsewhere extent i terms (apart-numbers extent term terms there others once.0) in
     let parts = total_below-difference n f g in
     let one = total_below-single n i (λ j. f j -ℤ g j) (number-below extent term.column there)
-    (λ j below (elsewhere : j ≡ i → ⊥). let same = ap (change j) (factor-other extent j term terms (λ (e : i ≡ j). elsewhere (sym e))) in omega (arith, ints, same)) in
+    (λ j below (elsewhere : j ≡ i → ⊥). let same = ap (change j) (factor-other extent j term terms (λ (e : i ≡ j). elsewhere (sym e))) in
+    omega (arith, ints, same)) in
     let first = ap (change i) (factor-first extent term terms empty) in
     let nothing = ap (change i) empty ∙ none i in
     omega (arith, ints, rest, parts, one, first, nothing)
@@ -52,7 +56,8 @@ pairs-zeros f zero ys none = refl
 pairs-zeros f (suc n) [] none = refl
 pairs-zeros f (suc n) (y ∷ ys) none = let first = none y in let rest = pairs-zeros f n ys none in omega (arith, ints, first, rest)
 
-pairs-single : {Y : Type 0} (f : ℕ → Y → ℤ) (n r x : ℕ) (ys : List Y) (d : Y) → ((y : Y) → f 0 y ≡ pos 0) → r < n → r < length ys → total_by_pairs f (slice_set (replicate n 0) r x) ys ≡ f x (get_or ys r d)
+pairs-single : {Y : Type 0} (f : ℕ → Y → ℤ) (n r x : ℕ) (ys : List Y) (d : Y) → ((y : Y) → f 0 y ≡ pos 0) → r < n → r < length ys →
+    total_by_pairs f (slice_set (replicate n 0) r x) ys ≡ f x (get_or ys r d)
 pairs-single f zero r x ys d none first second = absurd (omega arith)
 pairs-single f (suc n) r x [] d none first second = absurd (omega arith)
 pairs-single f (suc n) zero x (y ∷ ys) d none first second = let rest = pairs-zeros f n ys none in omega (arith, ints, rest)
@@ -70,7 +75,8 @@ change-none range weight y =
     let equal = ap (most_in range) same in
     omega (arith, ints, equal)
 
-weight-single : (extent : Extent) (rows : List RowForm) (objective : List RowTerm) (n r y : ℕ) (row : RowForm) → r < n → r < length rows → row ≡ get_or rows r row → (j : ℕ) →
+weight-single : (extent : Extent) (rows : List RowForm) (objective : List RowTerm) (n r y : ℕ) (row : RowForm) → r < n → r < length rows →
+    row ≡ get_or rows r row → (j : ℕ) →
     weight_of extent rows objective (single n r y) 1 j ≡ weight_of extent rows objective (replicate n 0) 1 j -ℤ (pos y *ℤ factor_of extent j row.terms)
 weight-single extent rows objective n r y row first second is j =
     let f = λ (x : ℕ) (form : RowForm). pos x *ℤ factor_of extent j form.terms in
@@ -79,11 +85,13 @@ weight-single extent rows objective n r y row first second is j =
     let last : f y (get_or rows r row) ≡ f y row = ap (f y) (sym is) in
     omega (arith, ints, one, none, last)
 
-pub single-sum : (rows : List RowForm) (bounds : Bounds) (objective : List RowTerm) (n r y : ℕ) (row : RowForm) → r < n → r < length rows → row ≡ get_or rows r row →
+pub single-sum : (rows : List RowForm) (bounds : Bounds) (objective : List RowTerm) (n r y : ℕ) (row : RowForm) → r < n → r < length rows →
+    row ≡ get_or rows r row →
     AreColumns bounds.extent row.terms → HasEachOnce row.terms →
     dual_sum rows bounds objective (single n r y) 1
     ≡ (dual_sum rows bounds objective (replicate n 0) 1 +ℤ (pos y *ℤ row.right))
-    +ℤ total_by (λ term. change_of (range_at bounds (number_of bounds.extent term.column)) (weight_of bounds.extent rows objective (replicate n 0) 1 (number_of bounds.extent term.column)) y term.factor) row.terms
+    +ℤ total_by (λ term. change_of (range_at bounds (number_of bounds.extent term.column))
+    (weight_of bounds.extent rows objective (replicate n 0) 1 (number_of bounds.extent term.column)) y term.factor) row.terms
 single-sum rows bounds objective n r y row first second is columns once =
     let count = count_of bounds.extent in
     let z = λ (j : ℕ). weight_of bounds.extent rows objective (replicate n 0) 1 j in
@@ -93,8 +101,10 @@ single-sum rows bounds objective n r y row first second is columns once =
     let one = pairs-single rights n r y rows row (λ form. zero-*ℤ form.right) first second in
     let none = pairs-zeros rights n rows (λ form. zero-*ℤ form.right) in
     let last : rights y (get_or rows r row) ≡ rights y row = ap (rights y) (sym is) in
-    let each = total_below-same count (λ j. most_in (range_at bounds j) (w j)) (λ j. most_in (range_at bounds j) (z j) +ℤ change j (factor_of bounds.extent j row.terms))
-    (λ j below. let equal = ap (most_in (range_at bounds j)) (weight-single bounds.extent rows objective n r y row first second is j) in omega (arith, ints, equal)) in
+    let each = total_below-same count (λ j. most_in (range_at bounds j) (w j))
+    (λ j. most_in (range_at bounds j) (z j) +ℤ change j (factor_of bounds.extent j row.terms))
+    (λ j below. let equal = ap (most_in (range_at bounds j)) (weight-single bounds.extent rows objective n r y row first second is j) in
+    omega (arith, ints, equal)) in
     let parts = total_below-sum count (λ j. most_in (range_at bounds j) (z j)) (λ j. change j (factor_of bounds.extent j row.terms)) in
     let terms = factors-sum bounds.extent change row.terms (λ j. change-none (range_at bounds j) (z j) y) columns once in
     omega (arith, ints, one, none, last, each, parts, terms)

@@ -19,7 +19,8 @@ factor_of extent j terms = total_by (factor_in extent j) terms
 
 -- the rows' factors of a column together, each row by its multiplier
 abbrev pub weighed_factor : Extent → List ℕ → List RowForm → ℕ → ℤ
-weighed_factor extent multipliers rows j = total_by_pairs (λ y row. pos y *ℤ factor_of extent j row.terms) multipliers rows
+weighed_factor extent multipliers rows j =
+    total_by_pairs (λ y row. pos y *ℤ factor_of extent j row.terms) multipliers rows
 
 -- likewise their right sides
 abbrev pub weighed_right : List ℕ → List RowForm → ℤ
@@ -27,7 +28,8 @@ weighed_right multipliers rows = total_by_pairs (λ y row. pos y *ℤ row.right)
 
 -- what is left of q times the objective's factor of a column once the rows are taken away
 abbrev pub weight_of : Extent → List RowForm → List RowTerm → List ℕ → ℕ → ℕ → ℤ
-weight_of extent rows objective multipliers q j = (pos q *ℤ factor_of extent j objective) -ℤ weighed_factor extent multipliers rows j
+weight_of extent rows objective multipliers q j =
+    (pos q *ℤ factor_of extent j objective) -ℤ weighed_factor extent multipliers rows j
 
 -- the most that a weight earns in a range: at one of its ends
 abbrev pub most_in : Interval → ℤ → ℤ
@@ -41,7 +43,8 @@ range_at bounds j = slice_index_or bounds.ends j zero_alone
 abbrev pub dual_sum : List RowForm → Bounds → List RowTerm → List ℕ → ℕ → ℤ
 dual_sum rows bounds objective multipliers q =
     weighed_right multipliers rows
-    +ℤ total_below (count_of bounds.extent) (λ j. most_in (range_at bounds j) (weight_of bounds.extent rows objective multipliers q j))
+    +ℤ total_below (count_of bounds.extent)
+    (λ j. most_in (range_at bounds j) (weight_of bounds.extent rows objective multipliers q j))
 
 -- the dual value: that sum by the denominator, rounded down
 abbrev pub dual_value : List RowForm → Bounds → List RowTerm → List ℕ → ℕ → ℤ

@@ -1,4 +1,4 @@
 pub mod Conditions
 pub mod Dual
-pub mod Cells
 pub mod Improving
+pub mod inside

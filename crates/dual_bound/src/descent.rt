@@ -1,13 +1,13 @@
-ghost use Rattle.std.specs.Prelude.{◌≡◌, ℕ, ◌+◌, ◌*◌, ◌^◌, ◌<◌, ◌≤◌, ◌≤ℤ◌, ◌<ℤ◌, pos, length, All};
-ghost use Rattle.linear_form.specs.Columns.{count_of};
-ghost use Rattle.dual_bound.specs.Conditions.{AreColumns, IsSystem, IsObjective, IsGuess};
-ghost use Rattle.dual_bound.specs.Improving.{IsKnown};
+ghost use Rattle.std.specs.Prelude.{◌≡◌, ◌*◌, ◌≤◌, ◌≤ℤ◌, ◌<ℤ◌, pos, length, All};
+ghost use Rattle.dual_bound.specs.Conditions.{AreColumns};
+ghost use Rattle.dual_bound.specs.inside.Steps.{IsKnown};
+ghost use Rattle.dual_bound.specs.inside.Systems.{IsWhole, row_count, column_count};
+ghost use Rattle.limits.specs.declared.TheConstants.{MOST_MULTIPLIER};
 
+use crate::system::System;
 use crate::trial::{Best, try_guess};
-use linear_form::{Ranges, Row, RowTerm};
-
-/// The greatest multiplier and the greatest denominator.
-const MOST: u64 = 1 << 32;
+use limits::MOST_MULTIPLIER;
+use linear_form::{Ranges, Row};
 
 /// How much finer than the guess that it begins with a descent steps at most.
 const FINEST: u64 = 1 << 16;
@@ -68,19 +68,19 @@ fn norm_of(slopes: &[i128]) -> i128 {
 /// The multiplier after a step against its slope, within its limits.
 fn moved(y: u64, slope: i128, amount: i128, norm: i128) -> u64
     requires { pos 0 <ℤ norm }
-    ensures { result ≤ 2 ^ 32 }
+    ensures { result ≤ MOST_MULTIPLIER }
 {
     let fall = slope.saturating_mul(amount).div_euclid(norm);
     let next = i128::from(y).saturating_sub(fall);
-    next.clamp(0, i128::from(MOST)) as u64
+    next.clamp(0, i128::from(MOST_MULTIPLIER)) as u64
 }
 
 /// A step of all multipliers against their slopes.
 fn step(multipliers: &mut [u64], slopes: &[i128], amount: i128, norm: i128)
     requires norm { pos 0 <ℤ norm }
     requires as_many { length slopes.now ≡ length multipliers.old }
-    requires within { All (λ y. y ≤ 2 ^ 32) multipliers.old }
-    ensures { All (λ y. y ≤ 2 ^ 32) multipliers.new }
+    requires within { All (λ y. y ≤ MOST_MULTIPLIER) multipliers.old }
+    ensures { All (λ y. y ≤ MOST_MULTIPLIER) multipliers.new }
 {
     for r in 0..multipliers.len() {
         multipliers[r] = moved(multipliers[r], slopes[r], amount, norm);
@@ -89,24 +89,24 @@ fn step(multipliers: &mut [u64], slopes: &[i128], amount: i128, norm: i128)
 
 /// By how much more multipliers and denominator can be taken at once, so that steps are finer.
 fn finer(multipliers: &[u64], q: u64) -> u64
-    requires multipliers { All (λ y. y ≤ 2 ^ 32) multipliers.now }
+    requires multipliers { All (λ y. y ≤ MOST_MULTIPLIER) multipliers.now }
     requires some { 1 ≤ q }
-    requires most { q ≤ 2 ^ 32 }
+    requires most { q ≤ MOST_MULTIPLIER }
     ensures some { 1 ≤ result }
-    ensures q { q * result ≤ 2 ^ 32 }
-    ensures multipliers { All (λ y. y * result ≤ 2 ^ 32) multipliers.now }
+    ensures q { q * result ≤ MOST_MULTIPLIER }
+    ensures multipliers { All (λ y. y * result ≤ MOST_MULTIPLIER) multipliers.now }
 {
     let mut greatest = q;
     for y in multipliers {
         greatest = greatest.max(*y);
     }
-    (MOST / greatest).min(FINEST)
+    (MOST_MULTIPLIER / greatest).min(FINEST)
 }
 
 /// Takes all multipliers so many times.
 fn scale(multipliers: &mut [u64], times: u64)
-    requires within { All (λ y. y * times ≤ 2 ^ 32) multipliers.old }
-    ensures { All (λ y. y ≤ 2 ^ 32) multipliers.new }
+    requires within { All (λ y. y * times ≤ MOST_MULTIPLIER) multipliers.old }
+    ensures { All (λ y. y ≤ MOST_MULTIPLIER) multipliers.new }
 {
     for y in multipliers.iter_mut() {
         *y *= times;
@@ -116,22 +116,19 @@ fn scale(multipliers: &mut [u64], times: u64)
 /// Goes down from the best guess by steps against the slopes, and keeps what is better. Each step aims at a
 /// value somewhat below the best; by how much shrinks wherever it gained nothing.
 pub(crate) fn descend(
-    rows: &[Row],
-    ranges: &Ranges,
-    objective: &[RowTerm],
+    system: &System,
     rounds: u32,
     multipliers: &mut [u64],
     slopes: &mut [i128],
     weights: &mut [i128],
     best: &mut Best,
 )
-    requires system { IsSystem rows.now ranges.now }
-    requires objective { IsObjective ranges.now objective.now }
-    requires multipliers { length multipliers.old ≡ length rows.now }
-    requires slopes { length slopes.old ≡ length rows.now }
-    requires weights { length weights.old ≡ length ranges.now.ends }
-    requires known { IsKnown rows.now ranges.now objective.now best.old }
-    ensures known { IsKnown rows.now ranges.now objective.now best.new }
+    requires whole { IsWhole system.now }
+    requires multipliers { length multipliers.old ≡ row_count system.now }
+    requires slopes { length slopes.old ≡ row_count system.now }
+    requires weights { length weights.old ≡ column_count system.now }
+    requires known { IsKnown system.now best.old }
+    ensures known { IsKnown system.now best.new }
     ensures before { best.new.value ≤ℤ best.old.value }
 {
     let times = finer(best.y.as_slice(), best.q);
@@ -147,11 +144,11 @@ pub(crate) fn descend(
         >> 1;
     for _round in 0..rounds {
         let before = best.value;
-        let sum = try_guess(rows, ranges, objective, multipliers, q, weights, best);
+        let sum = try_guess(system, multipliers, q, weights, best);
         if best.value >= before {
             gap = gap.saturating_sub(gap >> 3);
         }
-        find_slopes(rows, ranges, weights, multipliers, slopes);
+        find_slopes(system.rows, system.ranges, weights, multipliers, slopes);
         let norm = norm_of(slopes);
         if norm <= 0 {
             return;

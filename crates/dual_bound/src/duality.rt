@@ -5,6 +5,7 @@ ghost use Rattle.dual_bound.specs.Conditions.{IsSystem, IsObjective, IsGuess, Bo
 
 use crate::Guess;
 use crate::sums::dual_sum;
+use crate::system::System;
 use linear_form::{Objective, Ranges, RowList};
 
 /// The dual value of a guess. No point that meets the rows and lies in the ranges has a greater objective.
@@ -16,13 +17,12 @@ pub fn bound(rows: &RowList, ranges: &Ranges, objective: &Objective, guess: &Gue
     ensures points { BoundsPoints rows.now ranges.now objective.now result }
     ensures narrower { BoundsNarrower rows.now ranges.now objective.now guess.now.y guess.now.q result }
 {
-    let sum = dual_sum(
-        rows.as_slice(),
+    let system = System {
+        rows: rows.as_slice(),
         ranges,
-        objective.as_slice(),
-        guess.y.as_slice(),
-        guess.q,
-    );
+        objective: objective.as_slice(),
+    };
+    let sum = dual_sum(&system, guess.y.as_slice(), guess.q);
     sum.div_euclid(i128::from(guess.q))
 }
 
@@ -33,5 +33,10 @@ pub fn shows_empty(rows: &RowList, ranges: &Ranges, guess: &Guess) -> bool
     ensures exact { IsTrue result ↔ (emptiness_sum rows.now ranges.now guess.now.y <ℤ pos 0) }
     ensures empty { OnTrue result (HasNoPoint rows.now ranges.now) }
 {
-    dual_sum(rows.as_slice(), ranges, &[], guess.y.as_slice(), 1) < 0
+    let system = System {
+        rows: rows.as_slice(),
+        ranges,
+        objective: &[],
+    };
+    dual_sum(&system, guess.y.as_slice(), 1) < 0
 }

@@ -10,7 +10,7 @@
 //!
 //! Begin with `specs/Dual`, then `specs/Conditions`. The weights of columns are made in `weigh`, for a block of
 //! columns at a time, what they earn in `earned`, and the sums of both in `sums`; `trial`, `singles` and
-//! `descent` are the steps of `improve`.
+//! `descent` are the steps of `improve`. They all work on a `System`, the rows, ranges and objective of a call.
 #![tactic(auto)]
 
 mod descent;
@@ -21,6 +21,7 @@ mod improving;
 mod signed;
 mod singles;
 mod sums;
+mod system;
 #[cfg(test)]
 mod tests;
 mod trial;

@@ -1,8 +1,9 @@
 ghost use Rattle.std.specs.Prelude.{◌≡◌, ◌+◌, ◌*◌, ◌^◌, ◌<◌, ◌≤◌, ◌+ℤ◌, ◌-ℤ◌, ◌*ℤ◌, pos, neg_ℤ, unsigned_abs};
+ghost use Rattle.limits.specs.declared.TheConstants.{MOST_MULTIPLIER};
 
 /// So many times the factor.
 pub(crate) fn scaled(times: i128, factor: i64) -> i128
-    requires { unsigned_abs times ≤ 2 ^ 32 }
+    requires { unsigned_abs times ≤ MOST_MULTIPLIER }
     ensures value { result ≡ times *ℤ factor }
     ensures size { unsigned_abs result ≤ 2 ^ 95 }
 {
@@ -19,9 +20,9 @@ pub(crate) fn plus(sum: i128, more: i128) -> i128
 
 /// The negative of a multiplier.
 pub(crate) fn negative(y: u64) -> i128
-    requires { y ≤ 2 ^ 32 }
+    requires { y ≤ MOST_MULTIPLIER }
     ensures value { result ≡ neg_ℤ (pos y) }
-    ensures size { unsigned_abs result ≤ 2 ^ 32 }
+    ensures size { unsigned_abs result ≤ MOST_MULTIPLIER }
 {
     -i128::from(y)
 }

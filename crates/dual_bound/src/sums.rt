@@ -1,22 +1,25 @@
-ghost use Rattle.std.specs.Prelude.{◌≡◌, ℕ, ◌+◌, ◌-◌, ◌*◌, ◌^◌, ◌<◌, ◌≤◌, length, All, unsigned_abs};
+ghost use Rattle.std.specs.Prelude.{◌≡◌, ◌+◌, ◌-◌, ◌*◌, ◌^◌, ◌≤◌, length, All, unsigned_abs};
 ghost use Rattle.linear_form.specs.Rows.{HasEachOnce};
 ghost use Rattle.number_laws.specs.SignedSums.{total_below};
-ghost use Rattle.dual_bound.specs.Dual.{weighed_right, weight_of, most_in, range_at, dual_sum};
-ghost use Rattle.dual_bound.specs.Conditions.{IsSystem, IsObjective, IsGuess};
+ghost use Rattle.dual_bound.specs.Dual.{weighed_right};
+ghost use Rattle.dual_bound.specs.Conditions.{IsGuess};
+ghost use Rattle.dual_bound.specs.inside.Systems.{IsWhole, column_count, earned_in, sum_in};
+ghost use Rattle.limits.specs.declared.TheConstants.{MOST_MULTIPLIER, MOST_ROWS};
 
 use crate::earned::most_of_all;
 use crate::signed::{plus, scaled};
+use crate::system::System;
 use crate::weigh::weigh;
-use linear_form::{Ranges, Row, RowTerm};
+use linear_form::Row;
 
 /// How many columns are weighed at a time. All terms are gone over once for so many columns.
 const BLOCK: usize = 8192;
 
 /// The right sides, each by its multiplier.
 pub(crate) fn right_sum(rows: &[Row], multipliers: &[u64]) -> i128
-    requires few { length rows.now ≤ 512 }
+    requires few { length rows.now ≤ MOST_ROWS }
     requires as_many { length multipliers.now ≡ length rows.now }
-    requires within { All (λ y. y ≤ 2 ^ 32) multipliers.now }
+    requires within { All (λ y. y ≤ MOST_MULTIPLIER) multipliers.now }
     ensures value { result ≡ weighed_right multipliers.now rows.now }
     ensures size { unsigned_abs result ≤ 2 ^ 104 }
     ensures once { All (λ row. HasEachOnce row.terms) rows.now }
@@ -30,47 +33,37 @@ pub(crate) fn right_sum(rows: &[Row], multipliers: &[u64]) -> i128
 
 /// What the columns from number `from` up to number `to`, which is not counted, earn at most.
 fn block_sum(
-    rows: &[Row],
-    ranges: &Ranges,
-    objective: &[RowTerm],
+    system: &System,
     multipliers: &[u64],
     q: u64,
     from: usize,
     to: usize,
     cells: &mut [i128],
 ) -> i128
-    requires system { IsSystem rows.now ranges.now }
-    requires objective { IsObjective ranges.now objective.now }
-    requires guess { IsGuess rows.now multipliers.now q }
-    requires once { All (λ row. HasEachOnce row.terms) rows.now }
+    requires whole { IsWhole system.now }
+    requires guess { IsGuess system.now.rows.now multipliers.now q }
+    requires once { All (λ row. HasEachOnce row.terms) system.now.rows.now }
     requires order { from ≤ to }
-    requires there { to ≤ length ranges.now.ends }
+    requires there { to ≤ column_count system.now }
     requires few { to - from ≤ length cells.old }
-    ensures value { result ≡ total_below (to - from) (λ k. most_in (range_at ranges.now (from + k)) (weight_of ranges.now.extent rows.now objective.now multipliers.now q (from + k))) }
+    ensures value { result ≡ total_below (to - from) (λ k. earned_in system.now multipliers.now q (from + k)) }
     ensures size { unsigned_abs result ≤ (to - from) * 2 ^ 104 }
 {
-    let ends = &ranges.ends()[from..to];
+    let ends = &system.ranges.ends()[from..to];
     let weights = &mut cells[..to - from];
-    weigh(rows, ranges, objective, multipliers, q, from, weights);
+    weigh(system, multipliers, q, from, weights);
     most_of_all(ends, weights)
 }
 
 /// What all columns earn at most.
-fn column_sum(
-    rows: &[Row],
-    ranges: &Ranges,
-    objective: &[RowTerm],
-    multipliers: &[u64],
-    q: u64,
-) -> i128
-    requires system { IsSystem rows.now ranges.now }
-    requires objective { IsObjective ranges.now objective.now }
-    requires guess { IsGuess rows.now multipliers.now q }
-    requires once { All (λ row. HasEachOnce row.terms) rows.now }
-    ensures value { result ≡ total_below (length ranges.now.ends) (λ j. most_in (range_at ranges.now j) (weight_of ranges.now.extent rows.now objective.now multipliers.now q j)) }
+fn column_sum(system: &System, multipliers: &[u64], q: u64) -> i128
+    requires whole { IsWhole system.now }
+    requires guess { IsGuess system.now.rows.now multipliers.now q }
+    requires once { All (λ row. HasEachOnce row.terms) system.now.rows.now }
+    ensures value { result ≡ total_below (column_count system.now) (λ j. earned_in system.now multipliers.now q j) }
     ensures size { unsigned_abs result ≤ 2 ^ 120 }
 {
-    let count = ranges.ends().len();
+    let count = system.ranges.ends().len();
     let mut cells = [0; BLOCK];
     let mut sum = 0;
     let mut from = 0;
@@ -80,40 +73,21 @@ fn column_sum(
         } else {
             from + BLOCK
         };
-        sum = plus(
-            sum,
-            block_sum(
-                rows,
-                ranges,
-                objective,
-                multipliers,
-                q,
-                from,
-                to,
-                &mut cells,
-            ),
-        );
+        sum = plus(sum, block_sum(system, multipliers, q, from, to, &mut cells));
         from = to;
     }
     sum
 }
 
 /// The sum of which the dual value is the q-th part.
-pub(crate) fn dual_sum(
-    rows: &[Row],
-    ranges: &Ranges,
-    objective: &[RowTerm],
-    multipliers: &[u64],
-    q: u64,
-) -> i128
-    requires system { IsSystem rows.now ranges.now }
-    requires objective { IsObjective ranges.now objective.now }
-    requires guess { IsGuess rows.now multipliers.now q }
-    ensures value { result ≡ dual_sum rows.now ranges.now objective.now multipliers.now q }
+pub(crate) fn dual_sum(system: &System, multipliers: &[u64], q: u64) -> i128
+    requires whole { IsWhole system.now }
+    requires guess { IsGuess system.now.rows.now multipliers.now q }
+    ensures value { result ≡ sum_in system.now multipliers.now q }
     ensures size { unsigned_abs result ≤ 2 ^ 121 }
-    ensures ops { ranges.now.extent.ops ≤ 255 }
+    ensures ops { system.now.ranges.now.extent.ops ≤ 255 }
 {
-    let _ends = ranges.ends();
-    let rights = right_sum(rows, multipliers);
-    plus(rights, column_sum(rows, ranges, objective, multipliers, q))
+    let _ends = system.ranges.ends();
+    let rights = right_sum(system.rows, multipliers);
+    plus(rights, column_sum(system, multipliers, q))
 }

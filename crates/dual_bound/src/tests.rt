@@ -32,7 +32,7 @@ fn term(part: Part, factor: i64) -> RowTerm
 
 /// The operation draws up to `most` of each of three crudes, and starts and ends from 0 to 2.
 fn one_operation(alloc: Global, most: i64) -> Result<Ranges, Fail> {
-    let mut ranges = Ranges::new(alloc, 1, 1, 3)?;
+    let mut ranges = Ranges::new(alloc, 1, 1, 3, 0)?;
     ranges.set(column(Part::Z), 0, 1);
     ranges.set(column(Part::A(0)), 0, most);
     ranges.set(column(Part::A(1)), 0, most);

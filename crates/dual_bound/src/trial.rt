@@ -1,14 +1,13 @@
-ghost use Rattle.std.specs.Prelude.{◌≡◌, ℕ, ◌+◌, ◌*◌, ◌^◌, ◌<◌, ◌≤◌, ◌≤ℤ◌, length, unsigned_abs};
-ghost use Rattle.dual_bound.specs.Dual.{weight_of, dual_sum, dual_value};
-ghost use Rattle.dual_bound.specs.Conditions.{IsSystem, IsObjective, IsGuess};
-ghost use Rattle.dual_bound.specs.Cells.{Hold, AreWithin};
-ghost use Rattle.dual_bound.specs.Improving.{IsKnown, KeepsLesser, HaveMoreRoom};
+ghost use Rattle.std.specs.Prelude.{◌≡◌, ◌^◌, ◌≤◌, ◌≤ℤ◌, length, unsigned_abs};
+ghost use Rattle.dual_bound.specs.Conditions.{IsGuess};
+ghost use Rattle.dual_bound.specs.inside.Steps.{AreWeights, IsKnown, KeepsLesser};
+ghost use Rattle.dual_bound.specs.inside.Systems.{IsWhole, column_count, sum_in, value_in};
 
 use crate::earned::most_of_all;
 use crate::signed::plus;
 use crate::sums::right_sum;
+use crate::system::System;
 use crate::weigh::weigh;
-use linear_form::{Ranges, Row, RowTerm};
 
 /// The best guess so far, and its dual value.
 #[derive(Drop)]
@@ -19,27 +18,17 @@ pub(crate) struct Best {
 }
 
 /// The sum of which the dual value is the q-th part, and the weight of each column.
-fn evaluate(
-    rows: &[Row],
-    ranges: &Ranges,
-    objective: &[RowTerm],
-    multipliers: &[u64],
-    q: u64,
-    weights: &mut [i128],
-) -> i128
-    requires system { IsSystem rows.now ranges.now }
-    requires objective { IsObjective ranges.now objective.now }
-    requires guess { IsGuess rows.now multipliers.now q }
-    requires as_many { length weights.old ≡ length ranges.now.ends }
-    ensures value { result ≡ dual_sum rows.now ranges.now objective.now multipliers.now q }
+fn evaluate(system: &System, multipliers: &[u64], q: u64, weights: &mut [i128]) -> i128
+    requires whole { IsWhole system.now }
+    requires guess { IsGuess system.now.rows.now multipliers.now q }
+    requires as_many { length weights.old ≡ column_count system.now }
+    ensures value { result ≡ sum_in system.now multipliers.now q }
     ensures size { unsigned_abs result ≤ 2 ^ 121 }
-    ensures weights { Hold (weight_of ranges.now.extent rows.now objective.now multipliers.now q) weights.new }
-    ensures within { AreWithin (2 ^ 125) weights.new }
-    ensures room { HaveMoreRoom ranges.now.ends weights.new }
+    ensures weights { AreWeights system.now multipliers.now q weights.new }
 {
-    let rights = right_sum(rows, multipliers);
-    weigh(rows, ranges, objective, multipliers, q, 0, weights);
-    plus(rights, most_of_all(ranges.ends(), weights))
+    let rights = right_sum(system.rows, multipliers);
+    weigh(system, multipliers, q, 0, weights);
+    plus(rights, most_of_all(system.ranges.ends(), weights))
 }
 
 /// Keeps the guess where its value is less.
@@ -56,29 +45,24 @@ pub(crate) fn keep(best: &mut Best, multipliers: &[u64], q: u64, value: i128)
 
 /// Values the guess, and keeps it where it is better. The answer is the sum of which the value is the q-th part.
 pub(crate) fn try_guess(
-    rows: &[Row],
-    ranges: &Ranges,
-    objective: &[RowTerm],
+    system: &System,
     multipliers: &[u64],
     q: u64,
     weights: &mut [i128],
     best: &mut Best,
 ) -> i128
-    requires system { IsSystem rows.now ranges.now }
-    requires objective { IsObjective ranges.now objective.now }
-    requires guess { IsGuess rows.now multipliers.now q }
-    requires as_many { length weights.old ≡ length ranges.now.ends }
-    requires known { IsKnown rows.now ranges.now objective.now best.old }
-    ensures sum { result ≡ dual_sum rows.now ranges.now objective.now multipliers.now q }
+    requires whole { IsWhole system.now }
+    requires guess { IsGuess system.now.rows.now multipliers.now q }
+    requires as_many { length weights.old ≡ column_count system.now }
+    requires known { IsKnown system.now best.old }
+    ensures sum { result ≡ sum_in system.now multipliers.now q }
     ensures size { unsigned_abs result ≤ 2 ^ 121 }
-    ensures weights { Hold (weight_of ranges.now.extent rows.now objective.now multipliers.now q) weights.new }
-    ensures within { AreWithin (2 ^ 125) weights.new }
-    ensures room { HaveMoreRoom ranges.now.ends weights.new }
-    ensures known { IsKnown rows.now ranges.now objective.now best.new }
+    ensures weights { AreWeights system.now multipliers.now q weights.new }
+    ensures known { IsKnown system.now best.new }
     ensures before { best.new.value ≤ℤ best.old.value }
-    ensures tried { best.new.value ≤ℤ dual_value rows.now ranges.now objective.now multipliers.now q }
+    ensures tried { best.new.value ≤ℤ value_in system.now multipliers.now q }
 {
-    let sum = evaluate(rows, ranges, objective, multipliers, q, weights);
+    let sum = evaluate(system, multipliers, q, weights);
     keep(best, multipliers, q, sum.div_euclid(i128::from(q)));
     sum
 }

@@ -38,7 +38,8 @@ no_fault_by_test test fault = (refl, λ none. holds_of_nil test fault none)
 pub ruleset no_faults = (no_fault_in_joined, no_fault_by_test)
 
 -- where no item has a fault, the item at i has none
-pub each_of_nil : {X Y : Type 0} (faults : ℕ → X → List Y) (index i : ℕ) (xs : List X) (d : X) → each_from faults index xs ≡ [] → i < length xs → faults (index + i) (get_or xs i d) ≡ []
+pub each_of_nil : {X Y : Type 0} (faults : ℕ → X → List Y) (index i : ℕ) (xs : List X) (d : X) → each_from faults index xs ≡ [] → i < length xs →
+    faults (index + i) (get_or xs i d) ≡ []
 each_of_nil faults index i [] d none within = absurd (omega arith)
 each_of_nil {Y} faults index zero (x ∷ xs) d none within =
     let same : index + 0 ≡ index = omega arith in
@@ -50,15 +51,18 @@ each_of_nil {Y} faults index (suc i) (x ∷ xs) d none within =
     subst P same (each_of_nil faults (index + 1) i xs d (nil_of_append (faults index x) (each_from faults (index + 1) xs) none).1 (omega arith))
 
 -- a loop over the items: the one at i, which is x, has no fault, or has one, or i is past the end
-pub each_from-next : {X Y : Type 0} (faults : ℕ → X → List Y) (index i : ℕ) (xs : List X) (x : X) → i < length xs → x ≡ get_or xs i x → first_of (faults index x) ≡ None → first_of (each_from faults index (drop i xs)) ≡ first_of (each_from faults (index + 1) (drop (i + 1) xs))
+pub each_from-next : {X Y : Type 0} (faults : ℕ → X → List Y) (index i : ℕ) (xs : List X) (x : X) → i < length xs → x ≡ get_or xs i x →
+    first_of (faults index x) ≡ None → first_of (each_from faults index (drop i xs)) ≡ first_of (each_from faults (index + 1) (drop (i + 1) xs))
 each_from-next faults index i xs x within is none =
     ap (λ rest. first_of (each_from faults index rest)) (drop_more xs i x within)
     ∙ first_of-back (faults index (get_or xs i x)) (each_from faults (index + 1) (drop (i + 1) xs)) (ap (λ y. first_of (faults index y)) (sym is) ∙ none)
 
-pub each_from-stop : {X Y : Type 0} (faults : ℕ → X → List Y) (index i : ℕ) (xs : List X) (x : X) (fault : Y) → i < length xs → x ≡ get_or xs i x → first_of (faults index x) ≡ Some fault → first_of (each_from faults index (drop i xs)) ≡ Some fault
+pub each_from-stop : {X Y : Type 0} (faults : ℕ → X → List Y) (index i : ℕ) (xs : List X) (x : X) (fault : Y) → i < length xs → x ≡ get_or xs i x →
+    first_of (faults index x) ≡ Some fault → first_of (each_from faults index (drop i xs)) ≡ Some fault
 each_from-stop faults index i xs x fault within is found =
     ap (λ rest. first_of (each_from faults index rest)) (drop_more xs i x within)
-    ∙ first_of-front (faults index (get_or xs i x)) (each_from faults (index + 1) (drop (i + 1) xs)) fault (ap (λ y. first_of (faults index y)) (sym is) ∙ found)
+    ∙ first_of-front (faults index (get_or xs i x)) (each_from faults (index + 1) (drop (i + 1) xs)) fault (ap (λ y. first_of (faults index y)) (sym is)
+    ∙ found)
 
 pub each_from-end : {X Y : Type 0} (faults : ℕ → X → List Y) (index i : ℕ) (xs : List X) → length xs ≤ i → first_of (each_from faults index (drop i xs)) ≡ None
 each_from-end faults index i xs past = ap (λ rest. first_of (each_from faults index rest)) (drop_all i xs past)

@@ -1,2 +1,2 @@
-pub mod FormLaws
 pub mod BoundLaws
+pub mod LeafLaws

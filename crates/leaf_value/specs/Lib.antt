@@ -1,3 +1,5 @@
 pub mod PlainValue
-pub mod Forms
+pub mod Settings
 pub mod LeafValue
+pub mod TreeValue
+pub mod Budget

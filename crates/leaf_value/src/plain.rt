@@ -1,16 +1,12 @@
-ghost use Rattle.std.specs.Prelude.{◌≡◌, ◌+◌, ◌*◌, ◌^◌, ◌<◌, ◌≤◌, ◌≤ℤ◌, ◌&&◌, ◌==◌, pos, List};
+ghost use Rattle.std.specs.Prelude.{◌≡◌, ◌*◌, ◌^◌, ◌<◌, ◌≤◌, ◌&&◌, ◌==◌, pos};
 ghost use Rattle.std.specs.Int.{bit_at};
 ghost use Rattle.plant_model.specs.Parts.{op_count_of, op_of};
 ghost use Rattle.plant_model.specs.Relations.{is_charge};
-ghost use Rattle.replay_core.specs.Legal.{IsLegal};
-ghost use Rattle.replay_core.specs.Margin.{margin_of, greatest_gain_of};
-ghost use Rattle.slot_box.specs.Boxes.{IsPoint};
-ghost use Rattle.slot_box.specs.Entries.{Entry};
+ghost use Rattle.replay_core.specs.Margin.{greatest_gain_of};
 ghost use Rattle.slot_box.specs.Slots.{live_of};
-ghost use Rattle.leaf_value.specs.Forms.{word_of};
-ghost use Rattle.leaf_value.specs.PlainValue.{slot_value, plain_value_of};
+ghost use Rattle.limits.specs.declared.TheConstants.{MOST_OPERATIONS, MOST_VOLUME};
+ghost use Rattle.leaf_value.specs.PlainValue.{slot_value, plain_value_of, MOST_GAIN};
 
-use crate::laws::form_laws;
 use number_laws::positive_part;
 use plant_model::{OpKind, Plant};
 use slot_box::{Slot, SlotBox};
@@ -19,9 +15,7 @@ use slot_box::{Slot, SlotBox};
 pub fn plain_value(plant: &Plant, bx: &SlotBox) -> i128
     ensures value { result ≡ pos (plain_value_of plant.now bx.now) }
     ensures fits { plain_value_of plant.now bx.now < 2 ^ 63 }
-    ensures bounds { (point : List Entry) → IsPoint bx.now point → IsLegal plant.now (word_of point) → margin_of plant.now (word_of point) ≤ℤ result }
 {
-    form_laws(plant);
     let mut value: u64 = 0;
     for i in 0..bx.len() {
         value += slot_value(plant, bx.slot(i + 1), bx.live(i + 1));
@@ -31,10 +25,10 @@ pub fn plain_value(plant: &Plant, bx: &SlotBox) -> i128
 
 /// What the operations of a slot can add, of which these entries are live.
 fn slot_value(plant: &Plant, slot: Slot, live: u64) -> u64
-    requires volume { slot.volume.hi ≤ 10000000 }
+    requires volume { slot.volume.hi ≤ MOST_VOLUME }
     requires live { live ≡ live_of slot }
     ensures value { result ≡ slot_value plant.now slot }
-    ensures most { result ≤ 48 * 120000000000000 }
+    ensures most { result ≤ MOST_OPERATIONS * MOST_GAIN }
 {
     let gain = greatest_gain(plant, slot.volume.hi);
     let mut value: u64 = 0;
@@ -56,9 +50,9 @@ fn earns(plant: &Plant, live: u64, v: u8) -> bool
 }
 
 fn greatest_gain(plant: &Plant, volume: u32) -> u64
-    requires { volume ≤ 10000000 }
+    requires { volume ≤ MOST_VOLUME }
     ensures value { result ≡ greatest_gain_of plant.now volume }
-    ensures most { result ≤ 120000000000000 }
+    ensures most { result ≤ MOST_GAIN }
 {
     let mut gain: u64 = 0;
     for c in 0..plant.crude_count() {

@@ -1,79 +1,30 @@
-use crate::{form_laws, plain_value, point_value};
+use crate::{greater, greater_wide, leaf_laws, plain_value};
 use plant_model::Plant;
 use sample_plants::one_charge;
-use slot_box::{SlotBox, Split, SplitFault, SplitKind};
-use std::alloc::{AllocError, Global};
+use slot_box::SlotBox;
 use std::test::Fail;
-
-fn plant(alloc: Global) -> Result<Plant, Fail> {
-    Ok(Plant::new(alloc, one_charge().parts(alloc)?)?)
-}
-
-/// The root box of one slot.
-fn root(alloc: Global) -> Result<SlotBox, AllocError> {
-    SlotBox::root(alloc, 1, 1, 4, 2)
-}
-
-/// The part of a box that has the entries of the set or the lower numbers.
-fn left(alloc: Global, bx: &SlotBox, kind: SplitKind) -> Result<SlotBox, SplitFault> {
-    let (left, _) = bx.split(alloc, Split { slot: 1, kind })?;
-    Ok(left)
-}
-
-/// The part that has the others.
-fn right(alloc: Global, bx: &SlotBox, kind: SplitKind) -> Result<SlotBox, SplitFault> {
-    let (_, right) = bx.split(alloc, Split { slot: 1, kind })?;
-    Ok(right)
-}
-
-/// The box in which the charge runs from minute 0 on with all four units.
-fn whole_charge(alloc: Global) -> Result<SlotBox, SplitFault> {
-    let charge = left(alloc, &root(alloc)?, SplitKind::Ops(1))?;
-    let whole = right(alloc, &charge, SplitKind::Volume(4))?;
-    left(alloc, &whole, SplitKind::Start(1))
-}
-
-/// The box in which it ends at minute 2.
-fn slow_charge(alloc: Global) -> Result<SlotBox, SplitFault> {
-    right(alloc, &whole_charge(alloc)?, SplitKind::End(2))
-}
-
-/// The box in which it ends at minute 1, which is too fast.
-fn fast_charge(alloc: Global) -> Result<SlotBox, SplitFault> {
-    let early = left(alloc, &whole_charge(alloc)?, SplitKind::End(2))?;
-    right(alloc, &early, SplitKind::End(1))
-}
-
-/// The box in which the slot stays idle.
-fn idle(alloc: Global) -> Result<SlotBox, SplitFault> {
-    right(alloc, &root(alloc)?, SplitKind::Ops(1))
-}
-
-/// The value of the one point of a box; -1 of any other box.
-fn value(alloc: Global, bx: &SlotBox) -> Result<Option<i64>, Fail> {
-    if !bx.is_point() {
-        return Ok(Some(-1));
-    }
-    let found = point_value(alloc, &plant(alloc)?, bx)?;
-    Ok(found.map(|planned| planned.margin))
-}
 
 #[test]
 fn values_a_root_box(rt: HostRuntime) -> Result<(), Fail> {
-    let plant = plant(rt.alloc())?;
-    form_laws(&plant);
-    let root = root(rt.alloc())?;
+    let plant = Plant::new(rt.alloc(), one_charge().parts(rt.alloc())?)?;
+    leaf_laws(&plant);
+    let root = SlotBox::root(rt.alloc(), 1, 1, 4, 2)?;
     assert_eq!(rt; plain_value(&plant, &root), 12);
     Ok(())
 }
 
 #[test]
-fn values_boxes_of_one_point(rt: HostRuntime) -> Result<(), Fail> {
-    let slow = slow_charge(rt.alloc())?;
-    assert_eq!(rt; value(rt.alloc(), &slow)?, Some(12));
-    let fast = fast_charge(rt.alloc())?;
-    assert_eq!(rt; value(rt.alloc(), &fast)?, None);
-    let idle = idle(rt.alloc())?;
-    assert_eq!(rt; value(rt.alloc(), &idle)?, Some(0));
+fn the_greater_of_two_values(rt: HostRuntime) -> Result<(), Fail> {
+    for (best, value, wanted) in [
+        (None, None, None),
+        (None, Some(-3), Some(-3)),
+        (Some(2), None, Some(2)),
+        (Some(-5), Some(-4), Some(-4)),
+        (Some(7), Some(6), Some(7)),
+    ] {
+        assert_eq!(rt; greater(best, value), wanted);
+        let wide = greater_wide(best.map(i128::from), value.map(i128::from));
+        assert_eq!(rt; wide, wanted.map(i128::from));
+    }
     Ok(())
 }

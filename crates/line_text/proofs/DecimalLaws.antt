@@ -9,7 +9,8 @@ use Rattle.std.proofs.lemmas.Str.Parse.{IsNumeralModel, numerals_by_value, tells
 use Rattle.std.proofs.lemmas.Fmt.{digits_decimal, digits_value-decimal, decimal_nonempty, first_decimal, decimal_digit, decimal-digits_value}
 use Rattle.std.proofs.lemmas.Bool.{leb-true, lt-leb, le-leb, eq-eqb, ne_eqb, and_parts, cond-true, cases_lt, cases_Bool}
 use Rattle.std.proofs.lemmas.Option.{none-some, cond_some}
-use Rattle.line_text.specs.Decimal.{with_digit, value_after, decimal_of}
+use Rattle.line_text.specs.Decimal.{decimal_of}
+use Rattle.line_text.specs.inside.Digits.{with_digit, value_after}
 
 -- std's words for digits, as ours
 pub own : IsNumeralModel (λ ds. all_ascii_digits ds ≡ true) (digits_value 10)
@@ -34,20 +35,23 @@ abbrev whole : ℕ → ℕ → List ℕ → Option ℕ
 whole limit value bytes = cond (all_ascii_digits bytes && leb (digits_value_after 10 value bytes) limit) (Some (digits_value_after 10 value bytes)) None
 
 -- the bytes that follow a digit within the limit say the rest
-step_within : (limit value byte : ℕ) (bytes : List ℕ) → is_ascii_digit byte ≡ true → value_after limit (value * 10 + (byte - 48)) bytes ≡ whole limit (value * 10 + (byte - 48)) bytes
+step_within : (limit value byte : ℕ) (bytes : List ℕ) → is_ascii_digit byte ≡ true → value_after limit (value * 10 + (byte - 48)) bytes
+    ≡ whole limit (value * 10 + (byte - 48)) bytes
     → value * 10 + (byte - 48) ≤ limit → value_after limit value (byte ∷ bytes) ≡ whole limit value (byte ∷ bytes)
 unfolding with_digit
 step_within limit value byte bytes digit rest within = rw (digit, le-leb (value * 10 + (byte - 48)) limit within, value_of_digit byte digit) rest
 
 -- past the limit nothing is within it again
-step_past : (limit value byte : ℕ) (bytes : List ℕ) → is_ascii_digit byte ≡ true → limit < value * 10 + (byte - 48) → value_after limit value (byte ∷ bytes) ≡ whole limit value (byte ∷ bytes)
+step_past : (limit value byte : ℕ) (bytes : List ℕ) → is_ascii_digit byte ≡ true → limit < value * 10 + (byte - 48) → value_after limit value (byte ∷ bytes)
+    ≡ whole limit value (byte ∷ bytes)
 unfolding with_digit
 step_past limit value byte bytes digit past =
     let grows = value-grows (value * 10 + (byte - 48)) bytes in
     let none : leb (digits_value_after 10 (value * 10 + (byte - 48)) bytes) limit ≡ false = lt-leb _ _ (omega (arith, grows)) in
     rw (digit, lt-leb (value * 10 + (byte - 48)) limit past, value_of_digit byte digit, none) (sym (no_more (all_ascii_digits bytes) _))
 
-step_no_digit : (limit value byte : ℕ) (bytes : List ℕ) → is_ascii_digit byte ≡ false → value_after limit value (byte ∷ bytes) ≡ whole limit value (byte ∷ bytes)
+step_no_digit : (limit value byte : ℕ) (bytes : List ℕ) → is_ascii_digit byte ≡ false → value_after limit value (byte ∷ bytes)
+    ≡ whole limit value (byte ∷ bytes)
 unfolding with_digit
 step_no_digit limit value byte bytes other = rw other refl
 
@@ -70,7 +74,8 @@ decimal_of-plain : (limit : ℕ) (bytes : List ℕ) → HasNoNeedlessZero bytes 
 unfolding decimal_of
 decimal_of-plain limit [] plain = absurd (omega (arith, plain.0))
 decimal_of-plain limit (byte ∷ []) plain = value_after-is_whole limit 0 (byte ∷ []) (omega arith)
-decimal_of-plain limit (byte ∷ next ∷ bytes) plain = rw (ne_eqb byte 48 (λ e. absurd (omega (arith, plain.1 e)))) (value_after-is_whole limit 0 (byte ∷ next ∷ bytes) (omega arith))
+decimal_of-plain limit (byte ∷ next ∷ bytes) plain = rw (ne_eqb byte 48 (λ e. absurd (omega (arith, plain.1 e))))
+    (value_after-is_whole limit 0 (byte ∷ next ∷ bytes) (omega arith))
 
 decimal_has_no_needless_zero : (n : ℕ) → n < 2 ^ 64 → HasNoNeedlessZero (decimal n)
 decimal_has_no_needless_zero n small = (
@@ -85,7 +90,8 @@ decimal_has_no_needless_zero n small = (
 pub decimal_of-decimal : (limit n : ℕ) → n ≤ limit → limit < 2 ^ 64 → decimal_of limit (decimal n) ≡ Some n
 decimal_of-decimal limit n within small =
     let below : n < 2 ^ 64 = omega arith in
-    decimal_of-plain limit (decimal n) (decimal_has_no_needless_zero n below) ∙ rw (digits_decimal own n below, digits_value-decimal own n below, le-leb n limit within) refl
+    decimal_of-plain limit (decimal n) (decimal_has_no_needless_zero n below)
+    ∙ rw (digits_decimal own n below, digits_value-decimal own n below, le-leb n limit within) refl
 
 -- what is read has no needless zero
 plain_from_some : (limit : ℕ) (bytes : List ℕ) (n : ℕ) → decimal_of limit bytes ≡ Some n → HasNoNeedlessZero bytes
@@ -99,17 +105,20 @@ plain_from_some limit (byte ∷ next ∷ bytes) n found =
 pub decimal_of-some : (limit : ℕ) (bytes : List ℕ) (n : ℕ) → decimal_of limit bytes ≡ Some n → limit < 2 ^ 64 → (bytes ≡ decimal n) × (n ≤ limit)
 decimal_of-some limit bytes n found small =
     let plain = plain_from_some limit bytes n found in
-    let parts = cond_some (all_ascii_digits bytes && leb (digits_value 10 bytes) limit) (digits_value 10 bytes) n (sym (decimal_of-plain limit bytes plain) ∙ found) in
+    let parts = cond_some (all_ascii_digits bytes && leb (digits_value 10 bytes) limit) (digits_value 10 bytes) n (sym (decimal_of-plain limit bytes plain)
+    ∙ found) in
     let tests = and_parts (all_ascii_digits bytes) (leb (digits_value 10 bytes) limit) parts.0 in
     let within : digits_value 10 bytes ≤ limit = leb-true _ _ tests.1 in
     (sym (decimal-digits_value own bytes tests.0 plain.0 plain.1 (omega arith)) ∙ ap decimal parts.1, omega (arith, within, parts.1))
 
 -- the two sides of what a reader answers
-pub decimal-found : (limit : ℕ) (bytes : List ℕ) (answer : Option ℕ) → answer ≡ decimal_of limit bytes → limit < 2 ^ 64 → IfSome answer (λ n. (bytes ≡ decimal n) × (n ≤ limit))
+pub decimal-found : (limit : ℕ) (bytes : List ℕ) (answer : Option ℕ) → answer ≡ decimal_of limit bytes → limit < 2 ^ 64 →
+    IfSome answer (λ n. (bytes ≡ decimal n) × (n ≤ limit))
 decimal-found limit bytes None given small = tt
 decimal-found limit bytes (Some n) given small = decimal_of-some limit bytes n (sym given) small
 
-pub decimal-none : (limit : ℕ) (bytes : List ℕ) (answer : Option ℕ) → answer ≡ decimal_of limit bytes → limit < 2 ^ 64 → IfNone answer ((n : ℕ) → n ≤ limit → bytes ≢ decimal n)
+pub decimal-none : (limit : ℕ) (bytes : List ℕ) (answer : Option ℕ) → answer ≡ decimal_of limit bytes → limit < 2 ^ 64 →
+    IfNone answer ((n : ℕ) → n ≤ limit → bytes ≢ decimal n)
 decimal-none limit bytes None given small =
     λ n within text. none-some n (given ∙ ap (decimal_of limit) text ∙ decimal_of-decimal limit n within small)
 decimal-none limit bytes (Some n) given small = tt

@@ -4,3 +4,4 @@ pub mod PartLaws
 pub mod WordLaws
 pub mod ReadingLaws
 pub mod StepLaws
+pub mod LinesLaws

@@ -15,7 +15,8 @@ Parts = List ℕ × List ℕ
 abbrev pub onto : ℕ → Parts → Parts
 onto byte parts = (byte ∷ parts.0, parts.1)
 
-pub parts_at-at_mark : (mark : ℕ) (bytes : List ℕ) (i : ℕ) → i < length bytes → ((k : ℕ) → k < i → get_or bytes k 0 ≡ mark → ⊥) → get_or bytes i 0 ≡ mark → parts_at mark bytes ≡ Some (take i bytes, drop (suc i) bytes)
+pub parts_at-at_mark : (mark : ℕ) (bytes : List ℕ) (i : ℕ) → i < length bytes → ((k : ℕ) → k < i → get_or bytes k 0 ≡ mark → ⊥) → get_or bytes i 0 ≡ mark →
+    parts_at mark bytes ≡ Some (take i bytes, drop (suc i) bytes)
 unfolding parts_at
 parts_at-at_mark mark [] i within before found = absurd (omega arith)
 parts_at-at_mark mark (byte ∷ bytes) zero within before found = rw (eq-eqb byte mark found) refl
@@ -28,7 +29,8 @@ parts_at-no_mark mark [] none = refl
 parts_at-no_mark mark (byte ∷ bytes) none =
     rw (ne_eqb byte mark (none 0 (omega arith)), parts_at-no_mark mark bytes (λ k below. none (suc k) (omega arith))) refl
 
-further : (mark byte : ℕ) (bytes : List ℕ) (parts : Parts) (rest : Option Parts) → ((p : Parts) → rest ≡ Some p → bytes ≡ p.0 ++ mark ∷ p.1) → option_map (onto byte) rest ≡ Some parts → byte ∷ bytes ≡ parts.0 ++ mark ∷ parts.1
+further : (mark byte : ℕ) (bytes : List ℕ) (parts : Parts) (rest : Option Parts) → ((p : Parts) → rest ≡ Some p → bytes ≡ p.0 ++ mark ∷ p.1) →
+    option_map (onto byte) rest ≡ Some parts → byte ∷ bytes ≡ parts.0 ++ mark ∷ parts.1
 further mark byte bytes parts None law found = absurd (none-some parts found)
 further mark byte bytes parts (Some p) law found =
     subst (λ (q : Parts). byte ∷ bytes ≡ q.0 ++ mark ∷ q.1) (same_Some (onto byte p) parts found) (ap (λ (w : List ℕ). byte ∷ w) (law p refl))

@@ -49,7 +49,8 @@ pub decimal_at-decimal : (limit n : ℕ) (words : List (List ℕ)) → n ≤ lim
 unfolding decimal_at
 decimal_at-decimal limit n words within small = rw (decimal_of-decimal limit n within small) refl
 
-pub decimal_at-some : (limit : ℕ) (words : List (List ℕ)) (x : ℕ × List (List ℕ)) → decimal_at limit words ≡ Some x → limit < 2 ^ 64 → (words ≡ decimal x.0 ∷ x.1) × (x.0 ≤ limit)
+pub decimal_at-some : (limit : ℕ) (words : List (List ℕ)) (x : ℕ × List (List ℕ)) → decimal_at limit words ≡ Some x → limit < 2 ^ 64 →
+    (words ≡ decimal x.0 ∷ x.1) × (x.0 ≤ limit)
 unfolding decimal_at
 decimal_at-some limit [] x found small = absurd (none-some x found)
 decimal_at-some limit (word ∷ words) x found small =
@@ -115,7 +116,8 @@ end_at-end = refl
 
 -- ---- a number before a mark
 
-pub number_before-some : (mark limit : ℕ) (bytes : List ℕ) (x : ℕ × List ℕ) → number_before mark limit bytes ≡ Some x → limit < 2 ^ 64 → (bytes ≡ decimal x.0 ++ mark ∷ x.1) × (x.0 ≤ limit)
+pub number_before-some : (mark limit : ℕ) (bytes : List ℕ) (x : ℕ × List ℕ) → number_before mark limit bytes ≡ Some x → limit < 2 ^ 64 →
+    (bytes ≡ decimal x.0 ++ mark ∷ x.1) × (x.0 ≤ limit)
 unfolding number_before
 number_before-some mark limit bytes x found small =
     let parts = step_some (parts_at mark bytes) _ x found in
@@ -124,7 +126,8 @@ number_before-some mark limit bytes x found small =
     let whole = parts_at-some mark bytes parts.0 parts.1 ∙ ap (λ (w : List ℕ). w ++ mark ∷ parts.0.1) text.0 in
     subst (λ (y : ℕ × List ℕ). (bytes ≡ decimal y.0 ++ mark ∷ y.1) × (y.0 ≤ limit)) (same_Some (number.0, parts.0.1) x number.2) (whole, text.1)
 
-pub number_before-again : (mark limit n : ℕ) (rest : List ℕ) → n ≤ limit → limit < 2 ^ 64 → is_ascii_digit mark ≡ false → number_before mark limit (decimal n ++ mark ∷ rest) ≡ Some (n, rest)
+pub number_before-again : (mark limit n : ℕ) (rest : List ℕ) → n ≤ limit → limit < 2 ^ 64 → is_ascii_digit mark ≡ false →
+    number_before mark limit (decimal n ++ mark ∷ rest) ≡ Some (n, rest)
 unfolding number_before
 number_before-again mark limit n rest within small other =
     rw (parts_at-append mark (decimal n) rest (is_free-decimal mark n (omega arith) other), decimal_of-decimal limit n within small) refl

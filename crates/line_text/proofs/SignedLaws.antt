@@ -8,12 +8,14 @@ use Rattle.std.proofs.lemmas.Str.Parse.{not_in_digits}
 use Rattle.std.proofs.lemmas.Fmt.{digits_decimal, decimal_nonempty}
 use Rattle.std.proofs.lemmas.Bool.{eqb-true, ne_eqb, cond-true, cond-false, cases_Bool}
 use Rattle.std.proofs.lemmas.Option.{none-some, same_Some, option_and_then_some}
-use Rattle.line_text.specs.Decimal.{below_zero, decimal_of, signed_of}
+use Rattle.line_text.specs.Decimal.{decimal_of, signed_of}
+use Rattle.line_text.specs.inside.Digits.{below_zero}
 use Rattle.line_text.proofs.DecimalLaws.{own, decimal_of-decimal, decimal_of-some}
 
 -- a decimal has no `-`
 pub decimal_begins_without_minus : (n : ℕ) → n < 2 ^ 64 → get_or (decimal n) 0 0 ≢ 45
-decimal_begins_without_minus n small = not_in_digits own (decimal n) 45 (digits_decimal own n small) (λ range. absurd (omega (arith, range.0))) 0 (decimal_nonempty n small)
+decimal_begins_without_minus n small = not_in_digits own (decimal n) 45 (digits_decimal own n small) (λ range. absurd (omega (arith, range.0))) 0
+    (decimal_nonempty n small)
 
 -- a number with a sign is read from its decimal
 pub signed_of-decimal : (z : ℤ) → FitsSigned w64 z → signed_of (signed_decimal z) ≡ Some z
@@ -29,7 +31,8 @@ signed_of-decimal (negsuc n) fits =
 below_zero-some : (n : ℕ) (z : ℤ) (rest : List ℕ) → below_zero n ≡ Some z → rest ≡ decimal n → n ≤ 2 ^ 63 → (45 ∷ rest ≡ signed_decimal z) × FitsSigned w64 z
 below_zero-some zero z rest found text within = absurd (none-some z found)
 below_zero-some (suc n) z rest found text within =
-    subst (λ (y : ℤ). (45 ∷ rest ≡ signed_decimal y) × FitsSigned w64 y) (same_Some (negsuc n) z found) (ap (λ (t : List ℕ). 45 ∷ t) text, record { sfits = omega arith })
+    subst (λ (y : ℤ). (45 ∷ rest ≡ signed_decimal y) × FitsSigned w64 y) (same_Some (negsuc n) z found)
+    (ap (λ (t : List ℕ). 45 ∷ t) text, record { sfits = omega arith })
 
 -- what is read behind a `-`
 minus-some : (rest : List ℕ) (z : ℤ) → option_and_then below_zero (decimal_of (2 ^ 63) rest) ≡ Some z → (45 ∷ rest ≡ signed_decimal z) × FitsSigned w64 z
@@ -38,7 +41,8 @@ minus-some rest z found =
     (λ n read size. let parts = decimal_of-some (2 ^ 63) rest n read (omega arith) in below_zero-some n z rest size parts.0 parts.1)
 
 -- what is read without
-plain-some : (bytes : List ℕ) (z : ℤ) (read : Option ℕ) → decimal_of (2 ^ 63 - 1) bytes ≡ read → option_map pos read ≡ Some z → (bytes ≡ signed_decimal z) × FitsSigned w64 z
+plain-some : (bytes : List ℕ) (z : ℤ) (read : Option ℕ) → decimal_of (2 ^ 63 - 1) bytes ≡ read → option_map pos read ≡ Some z → (bytes ≡ signed_decimal z) ×
+    FitsSigned w64 z
 plain-some bytes z None is_read found = absurd (none-some z found)
 plain-some bytes z (Some n) is_read found =
     let parts = decimal_of-some (2 ^ 63 - 1) bytes n is_read (omega arith) in
@@ -51,11 +55,14 @@ signed_of-some [] z found = plain-some [] z (decimal_of (2 ^ 63 - 1) []) refl fo
 signed_of-some (byte ∷ rest) z found =
     elim (cases_Bool (eqb byte 45)) [
       | inl minus ↦
-          let behind : option_and_then below_zero (decimal_of (2 ^ 63) rest) ≡ Some z = sym (cond-true (eqb byte 45) (option_and_then below_zero (decimal_of (2 ^ 63) rest)) (option_map pos (decimal_of (2 ^ 63 - 1) (byte ∷ rest))) minus) ∙ found in
+          let behind : option_and_then below_zero (decimal_of (2 ^ 63) rest)
+          ≡ Some z = sym (cond-true (eqb byte 45) (option_and_then below_zero (decimal_of (2 ^ 63) rest))
+          (option_map pos (decimal_of (2 ^ 63 - 1) (byte ∷ rest))) minus) ∙ found in
           subst (λ (b : ℕ). (b ∷ rest ≡ signed_decimal z) × FitsSigned w64 z) (sym (eqb-true byte 45 minus)) (minus-some rest z behind)
       | inr other ↦
           plain-some (byte ∷ rest) z (decimal_of (2 ^ 63 - 1) (byte ∷ rest)) refl
-          (sym (cond-false (eqb byte 45) (option_and_then below_zero (decimal_of (2 ^ 63) rest)) (option_map pos (decimal_of (2 ^ 63 - 1) (byte ∷ rest))) other) ∙ found)
+          (sym (cond-false (eqb byte 45) (option_and_then below_zero (decimal_of (2 ^ 63) rest)) (option_map pos (decimal_of (2 ^ 63 - 1) (byte ∷ rest))) other)
+          ∙ found)
     ]
 
 -- the two sides of what a reader answers

@@ -16,7 +16,8 @@ behind_key key words next y found goes =
     let step = step_some (key_at key words) next y found in
     goes step.0 (key_at-some key words step.0 step.1) step.2
 
-pub behind_decimal : {B P : Type 0} (limit : ℕ) (words : Words) (next : ℕ × Words → Option B) (y : B) → (decimal_at limit words >>= next) ≡ Some y → limit < 2 ^ 64
+pub behind_decimal : {B P : Type 0} (limit : ℕ) (words : Words) (next : ℕ × Words → Option B) (y : B) → (decimal_at limit words >>= next) ≡ Some y →
+    limit < 2 ^ 64
     → ((n : ℕ) (rest : Words) → words ≡ decimal n ∷ rest → n ≤ limit → next (n, rest) ≡ Some y → P) → P
 behind_decimal limit words next y found small goes =
     let step = step_some (decimal_at limit words) next y found in
@@ -43,7 +44,8 @@ behind_end words next y found goes =
     let step = step_some (end_at words) next y found in
     goes step.0 (end_at-some words step.0 step.1) step.2
 
-pub behind_number : {B P : Type 0} (mark limit : ℕ) (bytes : List ℕ) (next : ℕ × List ℕ → Option B) (y : B) → (number_before mark limit bytes >>= next) ≡ Some y → limit < 2 ^ 64
+pub behind_number : {B P : Type 0} (mark limit : ℕ) (bytes : List ℕ) (next : ℕ × List ℕ → Option B) (y : B) → (number_before mark limit bytes >>= next) ≡ Some y
+    → limit < 2 ^ 64
     → ((n : ℕ) (rest : List ℕ) → bytes ≡ decimal n ++ mark ∷ rest → n ≤ limit → next (n, rest) ≡ Some y → P) → P
 behind_number mark limit bytes next y found small goes =
     let step = step_some (number_before mark limit bytes) next y found in

@@ -12,7 +12,8 @@ abbrev words_after : List ℕ → Option Parts → List (List ℕ)
 words_after line None = line ∷ []
 words_after line (Some parts) = parts.0 ∷ words_of parts.1
 
-words_after-onto : (byte : ℕ) (line : List ℕ) (parts : Option Parts) → onto_first byte (words_after line parts) ≡ words_after (byte ∷ line) (option_map (onto byte) parts)
+words_after-onto : (byte : ℕ) (line : List ℕ) (parts : Option Parts) → onto_first byte (words_after line parts)
+    ≡ words_after (byte ∷ line) (option_map (onto byte) parts)
 words_after-onto byte line None = refl
 words_after-onto byte line (Some parts) = refl
 

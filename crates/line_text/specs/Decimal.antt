@@ -1,30 +1,17 @@
--- Whole numbers as digits. The decimal of a number, which std calls `decimal`, is `0`, or digits of which the first is not `0`.
-use Rattle.std.specs.Prelude.{◌≡◌, ℕ, zero, suc, ◌+◌, ◌-◌, ◌*◌, ◌^◌, ◌<◌, ◌&&◌, nat_le, ◌==◌, slice_index, List, [], ◌∷◌, drop, Option, Some, None, if◌then◌else◌, decimal, ℤ, pos, negsuc, FitsSigned}
+-- Whole numbers as digits. The decimal of a number, which std calls `decimal`, is `0`, or digits of which the first is
+-- not `0`.
+use Rattle.std.specs.Prelude.{◌≡◌, ℕ, ◌-◌, ◌^◌, ◌<◌, ◌==◌, slice_index, List, [], ◌∷◌, drop, Option, None, if◌then◌else◌, decimal, ℤ, pos, FitsSigned}
 use Rattle.std.specs.Int.{w64}
 use Rattle.std.specs.Fmt.{signed_decimal}
 use Rattle.std.specs.Option.{option_map, option_and_then}
-use Rattle.std.specs.Char.{is_ascii_digit}
+use Rattle.line_text.specs.inside.Digits.{value_after, below_zero}
 
--- one digit more (48 is `0`): the value then, where it is at most limit
-unfoldable pub with_digit : ℕ → ℕ → ℕ → Option ℕ
-with_digit limit value byte =
-    if is_ascii_digit byte && nat_le (value * 10 + (byte - 48)) limit then Some (value * 10 + (byte - 48)) else None
-
--- the value of digits that follow those of value
-abbrev pub value_after : ℕ → ℕ → List ℕ → Option ℕ
-value_after limit value [] = Some value
-value_after limit value (byte ∷ bytes) = option_and_then (λ next. value_after limit next bytes) (with_digit limit value byte)
-
--- the number whose decimal the bytes are, where it is at most limit: digits of which the first is `0` only where it is the only one
+-- the number whose decimal the bytes are, where it is at most limit: digits of which the first is `0` only where it is
+-- the only one
 unfoldable pub decimal_of : ℕ → List ℕ → Option ℕ
 decimal_of limit [] = None
 decimal_of limit (byte ∷ []) = value_after limit 0 (byte ∷ [])
 decimal_of limit (byte ∷ next ∷ bytes) = if byte == 48 then None else value_after limit 0 (byte ∷ next ∷ bytes)
-
--- the number below 0 of this size
-abbrev pub below_zero : ℕ → Option ℤ
-below_zero zero = None
-below_zero (suc n) = Some (negsuc n)
 
 -- the number of 64 bits with a sign whose decimal the bytes are: a decimal, or `-` (45) and a decimal other than `0`
 unfoldable pub signed_of : List ℕ → Option ℤ

@@ -1,6 +1,5 @@
 -- Lines of words: what stands in plans and in dossiers.
 use Rattle.std.specs.Prelude.{ℕ, ◌==◌, List, [], ◌∷◌, ◌++◌, Option, Some, None, if◌then◌else◌}
-use Rattle.std.specs.Borrow.{Bor}
 use Rattle.std.specs.Option.{option_map}
 use Rattle.std.specs.List.{slice_split, flat_map}
 
@@ -26,8 +25,3 @@ unfoldable pub parts_at : ℕ → List ℕ → Option (List ℕ × List ℕ)
 parts_at mark [] = None
 parts_at mark (byte ∷ bytes) =
     if byte == mark then Some ([], bytes) else option_map (λ parts. (byte ∷ parts.0, parts.1)) (parts_at mark bytes)
-
--- the words that are left of a line: those of what is left of it, or none
-abbrev pub words_left : Option (Bor (List ℕ)) → List (List ℕ)
-words_left None = []
-words_left (Some rest) = words_of rest.now

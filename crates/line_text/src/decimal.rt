@@ -1,10 +1,11 @@
 ghost use Rattle.std.specs.Prelude.{◌≡◌, ◌≢◌, ℕ, ◌≤◌, ◌^◌, IfSome, IfNone, decimal, ℤ, FitsSigned};
 ghost use Rattle.std.specs.Int.{w64};
 ghost use Rattle.std.specs.Fmt.{signed_decimal};
-ghost use Rattle.line_text.specs.Decimal.{with_digit, value_after, decimal_of, below_zero, signed_of, HasOneNumber, HasOneSignedNumber};
+ghost use Rattle.line_text.specs.Decimal.{decimal_of, signed_of, HasOneNumber, HasOneSignedNumber};
+ghost use Rattle.line_text.specs.inside.Digits.{with_digit, value_after, below_zero};
 
 /// The value with one digit more.
-#[tactic(auto, unfolding(crate::specs::Decimal::with_digit))]
+#[tactic(auto, unfolding(crate::specs::inside::Digits::with_digit))]
 fn with_digit(limit: u64, value: u64, byte: u8) -> Option<u64>
     ensures { result ≡ with_digit limit value byte }
 {

@@ -1,5 +1,5 @@
 use crate::{
-    Words, is_name, keep_whole, push_decimal, push_marked, push_number, push_signed,
+    Lines, Words, is_name, keep_whole, push_decimal, push_marked, push_number, push_signed,
     push_signed_number, push_text, push_word, read_before, read_decimal, read_signed,
     split_at_mark,
 };
@@ -177,6 +177,44 @@ fn divides_lines_at_blanks(rt: HostRuntime) -> Result<(), Fail> {
     for (line, wanted) in lines() {
         let words = bracketed(rt.alloc(), line)?;
         assert_eq!(rt; words.as_slice(), wanted.as_bytes(), "{line}");
+    }
+    Ok(())
+}
+
+// The lines of a text, each behind its number, and the number of what is left.
+fn numbered(alloc: Global, text: &str) -> Result<Vec<u8>, AllocError> {
+    let mut lines = Lines::new(text.as_bytes());
+    let mut out = Vec::new(alloc);
+    for _ in 0..4 {
+        let number = lines.number();
+        if number > 9 {
+            break;
+        }
+        push_number(&mut out, u64::from(number))?;
+        match lines.next_line() {
+            Some(line) => push_word(&mut out, line)?,
+            None if lines.is_at_end() => push_text(&mut out, b" end")?,
+            None => push_text(&mut out, b" rest")?,
+        }
+    }
+    Ok(out)
+}
+
+const TEXTS: &[(&str, &str)] = &[
+    ("a\n\nb c\n", " 1 a 2  3 b c 4 end"),
+    ("a\nb", " 1 a 2 rest 2 rest 2 rest"),
+    ("", " 1 end 1 end 1 end 1 end"),
+];
+
+fn texts() -> &'static [(&'static str, &'static str)] {
+    TEXTS
+}
+
+#[test]
+fn numbers_the_lines_of_a_text(rt: HostRuntime) -> Result<(), Fail> {
+    for (text, wanted) in texts() {
+        let out = numbered(rt.alloc(), text)?;
+        assert_eq!(rt; out.as_slice(), wanted.as_bytes(), "{text}");
     }
     Ok(())
 }

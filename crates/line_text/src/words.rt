@@ -39,7 +39,7 @@ pub struct Words<'a> {
 
 impl<'a> Model for Words<'a> {
     ghost use Rattle.std.specs.Prelude.{ℕ, List};
-    ghost use Rattle.line_text.specs.Words.{words_left};
+    ghost use Rattle.line_text.specs.inside.Rest.{words_left};
 
     ghost Value = { List (List ℕ) };
 
@@ -66,7 +66,8 @@ impl<'a> Words<'a> {
     /// The next word, which is to be a decimal of at most the limit.
     #[tactic(auto, unfolding(crate::specs::Reading::decimal_at))]
     pub fn decimal(&mut self, limit: u64) -> Option<u64>
-        ensures exact { MatchOption result (decimal_at limit self.old ≡ None) (λ number. decimal_at limit self.old ≡ Some (number, self.new)) }
+        ensures exact { MatchOption result (decimal_at limit self.old ≡ None) (λ number. decimal_at limit self.old
+            ≡ Some (number, self.new)) }
         ensures within { IfSome result (λ number. number ≤ limit) }
     {
         let word = self.next()?;
@@ -76,7 +77,8 @@ impl<'a> Words<'a> {
     /// The next word, which is to be a decimal with a sign.
     #[tactic(auto, unfolding(crate::specs::Reading::signed_at))]
     pub fn signed(&mut self) -> Option<i64>
-        ensures { MatchOption result (signed_at self.old ≡ None) (λ number. signed_at self.old ≡ Some (number, self.new)) }
+        ensures { MatchOption result (signed_at self.old ≡ None) (λ number. signed_at self.old
+            ≡ Some (number, self.new)) }
     {
         let word = self.next()?;
         read_signed(word)

@@ -19,4 +19,5 @@ range_of bounds column = slice_index_or bounds.ends (number_of bounds.extent col
 
 -- every other column has the range that it had
 abbrev pub KeepsOthers : Column → Bounds → Bounds → Type 0
-KeepsOthers column old new = (other : Column) → IsColumn old.extent other → other ≢ column → range_of new other ≡ range_of old other
+KeepsOthers column old new =
+    (other : Column) → IsColumn old.extent other → other ≢ column → range_of new other ≡ range_of old other

@@ -29,4 +29,6 @@ MeetsRows rows point = All (IsMet point) rows
 
 -- each column's number lies in its range
 abbrev pub LiesIn : Bounds → Point → Type 0
-LiesIn bounds point = (column : Column) → IsColumn bounds.extent column → ((range_of bounds column).lo ≤ℤ point column) × (point column ≤ℤ (range_of bounds column).hi)
+LiesIn bounds point =
+    (column : Column) → IsColumn bounds.extent column →
+    ((range_of bounds column).lo ≤ℤ point column) × (point column ≤ℤ (range_of bounds column).hi)

@@ -12,10 +12,12 @@ pub enum Part {
     S,
     /// The minute at which it ends.
     E,
+    /// How many minutes a vessel waits: from its arrival to the end of its last unloading.
+    W,
 }
 
 /// One number of one entry of a slot. Slots are numbered from 1, operations from 0; idle is entry 255
-/// and has the part `Z` alone.
+/// and has the part `Z` alone. Slot 0 has the part `W` alone, and its entries are the vessels, from 0.
 #[derive(Clone, Copy, Debug, PartialEq, Eq)]
 pub struct Column {
     pub slot: u32,

@@ -12,12 +12,13 @@ pub struct Interval {
     pub hi: i64,
 }
 
-/// A least and a greatest number for each column of a form of so many slots, operations and crudes.
+/// A least and a greatest number for each column of a form of so many slots, operations, crudes and vessels.
 #[derive(Debug, Drop)]
 pub struct Ranges {
     slots: u32,
     ops: u8,
     crudes: u8,
+    vessels: u8,
     ends: Vec<Interval>,
 }
 
@@ -28,9 +29,18 @@ impl Model for Ranges {
 
     ghost Value = { Bounds };
 
-    ghost view = { λ ranges. record { extent = record { slots = ranges.slots; ops = ranges.ops; crudes = ranges.crudes }; ends = ranges.ends.items } };
+    ghost view = { λ ranges. record {
+      extent = record { slots = ranges.slots; ops = ranges.ops; crudes = ranges.crudes; vessels = ranges.vessels };
+      ends = ranges.ends.items;
+    } };
 
-    ghost invariant = { λ ranges. length ranges.ends.items ≡ count_of (record { slots = ranges.slots; ops = ranges.ops; crudes = ranges.crudes }) };
+    ghost invariant = { λ ranges. length ranges.ends.items ≡
+        count_of (record {
+          slots = ranges.slots;
+          ops = ranges.ops;
+          crudes = ranges.crudes;
+          vessels = ranges.vessels;
+        }) };
 }
 
 /// The number of a part in the order of parts.
@@ -39,76 +49,102 @@ fn part_number(part: Part) -> usize
     ensures most { result ≤ 258 }
 {
     match part {
-        Part::Z => 0,
+        Part::Z | Part::W => 0,
         Part::S => 1,
         Part::E => 2,
         Part::A(crude) => 3 + crude as usize,
     }
 }
 
-fn column_count(slots: u32, ops: u8, crudes: u8) -> usize
-    ensures { result ≡ count_of (record { slots = slots; ops = ops; crudes = crudes }) }
+/// How many columns a form of that extent has.
+fn column_count(slots: u32, ops: u8, crudes: u8, vessels: u8) -> usize
+    ensures { result ≡ count_of (record { slots = slots; ops = ops; crudes = crudes; vessels = vessels }) }
 {
     let slots = slots as usize;
-    slots + slots * ops as usize * (crudes as usize + 3)
-}
-
-fn number_in(slots: u32, ops: u8, crudes: u8, column: Column) -> usize
-    requires { IsColumn (record { slots = slots; ops = ops; crudes = crudes }) column }
-    ensures { result ≡ number_of (record { slots = slots; ops = ops; crudes = crudes }) column }
-{
-    let before = column.slot as usize - 1;
-    if column.entry < ops {
-        let operations = before * ops as usize + column.entry as usize;
-        slots as usize + (operations * (crudes as usize + 3) + part_number(column.part))
-    } else {
-        before
-    }
+    slots + slots * ops as usize * (crudes as usize + 3) + vessels as usize
 }
 
 impl Ranges {
     ghost use Rattle.linear_form.specs.Bounds.{Bounds, range_of, zero_alone, KeepsOthers};
 
     /// 0 alone for each column.
-    pub fn new(alloc: Global, slots: u32, ops: u8, crudes: u8) -> Result<Ranges, AllocError>
-        ensures extent { IfOk result (λ ranges. ranges.extent ≡ record { slots = slots; ops = ops; crudes = crudes }) }
+    pub fn new(
+        alloc: Global,
+        slots: u32,
+        ops: u8,
+        crudes: u8,
+        vessels: u8,
+    ) -> Result<Ranges, AllocError>
+        ensures extent { IfOk result (λ ranges.
+            ranges.extent ≡ record { slots = slots; ops = ops; crudes = crudes; vessels = vessels }) }
         ensures zeros { IfOk result (λ ranges. ranges.ends ≡ replicate (count_of ranges.extent) zero_alone) }
     {
         let zero = Interval { lo: 0, hi: 0 };
-        let count = column_count(slots, ops, crudes);
+        let count = column_count(slots, ops, crudes, vessels);
         Ok(Ranges {
             slots,
             ops,
             crudes,
+            vessels,
             ends: vec![in alloc; zero; count]?,
         })
     }
 
+    /// How many slots the form has.
     pub fn slots(&self) -> u32
         ensures { result ≡ self.now.extent.slots }
     {
         self.slots
     }
 
+    /// How many operations.
     pub fn ops(&self) -> u8
         ensures { result ≡ self.now.extent.ops }
     {
         self.ops
     }
 
+    /// How many crudes.
     pub fn crudes(&self) -> u8
         ensures { result ≡ self.now.extent.crudes }
     {
         self.crudes
     }
 
+    /// How many vessels.
+    pub fn vessels(&self) -> u8
+        ensures { result ≡ self.now.extent.vessels }
+    {
+        self.vessels
+    }
+
     /// The place of a column among the columns.
+    fn place(&self, column: Column) -> usize
+        requires { IsColumn self.now.extent column }
+        ensures { result ≡ number_of self.now.extent column }
+    {
+        if column.slot == 0 {
+            // its place is the count of columns where the vessels before it are all
+            return column_count(self.slots, self.ops, self.crudes, column.entry);
+        }
+        let before = column.slot as usize - 1;
+        if column.entry < self.ops {
+            let operations = before * self.ops as usize + column.entry as usize;
+            self.slots as usize
+                + (operations * (self.crudes as usize + 3) + part_number(column.part))
+        } else {
+            before
+        }
+    }
+
+    /// The place of a column among the columns, for which there is a range.
     pub fn number(&self, column: Column) -> usize
         requires { IsColumn self.now.extent column }
         ensures value { result ≡ number_of self.now.extent column }
         ensures there { result < length self.now.ends }
     {
-        number_in(self.slots, self.ops, self.crudes, column)
+        let _ops = self.ops;
+        self.place(column)
     }
 
     /// The ranges of all columns, in their order.
@@ -135,7 +171,8 @@ impl Ranges {
     pub fn set(&mut self, column: Column, lo: i64, hi: i64)
         requires { IsColumn self.old.extent column }
         ensures extent { self.new.extent ≡ self.old.extent }
-        ensures ends { self.new.ends ≡ slice_set self.old.ends (number_of self.old.extent column) (record { lo = lo; hi = hi }) }
+        ensures ends { self.new.ends ≡
+            slice_set self.old.ends (number_of self.old.extent column) (record { lo = lo; hi = hi }) }
         ensures column { range_of self.new column ≡ record { lo = lo; hi = hi } }
         ensures others { KeepsOthers column self.old self.new }
     {

@@ -50,6 +50,7 @@ impl Row {
         Ok(Row { terms, right })
     }
 
+    /// The terms, in their order.
     pub fn terms(&self) -> &[RowTerm]
         ensures value { result.now ≡ self.now.terms }
         ensures once { HasEachOnce self.now.terms }
@@ -57,6 +58,7 @@ impl Row {
         self.terms.as_slice()
     }
 
+    /// What the sum of the terms is at most.
     pub fn right(&self) -> i64
         ensures value { result ≡ self.now.right }
         ensures once { HasEachOnce self.now.terms }

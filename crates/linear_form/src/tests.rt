@@ -15,6 +15,12 @@ const DRAWN: Column = Column {
     part: Part::A(1),
 };
 
+const WAITED: Column = Column {
+    slot: 0,
+    entry: 1,
+    part: Part::W,
+};
+
 #[test]
 fn a_row_is_its_terms(rt: HostRuntime) -> Result<(), Fail> {
     let terms = [
@@ -41,15 +47,18 @@ fn a_row_is_its_terms(rt: HostRuntime) -> Result<(), Fail> {
 
 #[test]
 fn each_column_keeps_its_range(rt: HostRuntime) -> Result<(), Fail> {
-    let mut ranges = Ranges::new(rt.alloc(), 2, 3, 2)?;
+    let mut ranges = Ranges::new(rt.alloc(), 2, 3, 2, 2)?;
     assert_eq!(rt; ranges.slots(), 2);
     assert_eq!(rt; ranges.ops(), 3);
     assert_eq!(rt; ranges.crudes(), 2);
-    assert_eq!(rt; ranges.ends().len(), 32);
+    assert_eq!(rt; ranges.vessels(), 2);
+    assert_eq!(rt; ranges.ends().len(), 34);
     ranges.set(IDLE, 0, 1);
     ranges.set(DRAWN, -5, i64::MAX);
+    ranges.set(WAITED, 0, 60);
     assert_eq!(rt; ranges.get(IDLE), (0, 1));
     assert_eq!(rt; ranges.get(DRAWN), (-5, i64::MAX));
+    assert_eq!(rt; ranges.get(WAITED), (0, 60));
     let start = Column {
         part: Part::S,
         ..DRAWN
@@ -57,6 +66,7 @@ fn each_column_keeps_its_range(rt: HostRuntime) -> Result<(), Fail> {
     assert_eq!(rt; ranges.get(start), (0, 0));
     assert_eq!(rt; ranges.number(IDLE), 1);
     assert_eq!(rt; ranges.number(DRAWN), 16);
+    assert_eq!(rt; ranges.number(WAITED), 33);
     column_laws();
     Ok(())
 }

@@ -19,7 +19,8 @@ pub positive_part-monotone : (y z : ℤ) → y ≤ℤ z → positive_part y ≤ 
 positive_part-monotone y z below = positive_part-least y (positive_part z) (let above = positive_part-above z in omega (arith, ints))
 
 pub positive_part-sum : (y z : ℤ) → positive_part (y +ℤ z) ≤ positive_part y + positive_part z
-positive_part-sum y z = positive_part-least (y +ℤ z) (positive_part y + positive_part z) (let first = positive_part-above y in let second = positive_part-above z in omega (arith, ints))
+positive_part-sum y z = positive_part-least (y +ℤ z) (positive_part y + positive_part z) (let first = positive_part-above y in
+    let second = positive_part-above z in omega (arith, ints))
 
 pub positive_part-scaled : (k : ℕ) (z : ℤ) → positive_part (pos k *ℤ z) ≡ k * positive_part z
 positive_part-scaled k (pos n) = grind (arith, ints)

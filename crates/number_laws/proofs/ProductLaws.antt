@@ -12,7 +12,8 @@ one_less a k = ap (λ (b : ℤ). b *ℤ k) (-ℤ_one a) ∙ pred_ℤ-*ℤ a k
 distributes_more : (a b c : ℤ) → a *ℤ (b +ℤ c) ≡ (a *ℤ b) +ℤ (a *ℤ c) → (a +ℤ pos 1) *ℤ (b +ℤ c) ≡ ((a +ℤ pos 1) *ℤ b) +ℤ ((a +ℤ pos 1) *ℤ c)
 distributes_more a b c here = omega (arith, ints, here, one_more a (b +ℤ c), one_more a b, one_more a c)
 
-distributes_less : (a b c : ℤ) → a *ℤ (b +ℤ c) ≡ (a *ℤ b) +ℤ (a *ℤ c) → (a +ℤ neg_ℤ (pos 1)) *ℤ (b +ℤ c) ≡ ((a +ℤ neg_ℤ (pos 1)) *ℤ b) +ℤ ((a +ℤ neg_ℤ (pos 1)) *ℤ c)
+distributes_less : (a b c : ℤ) → a *ℤ (b +ℤ c) ≡ (a *ℤ b) +ℤ (a *ℤ c) → (a +ℤ neg_ℤ (pos 1)) *ℤ (b +ℤ c) ≡ ((a +ℤ neg_ℤ (pos 1)) *ℤ b)
+    +ℤ ((a +ℤ neg_ℤ (pos 1)) *ℤ c)
 distributes_less a b c here = omega (arith, ints, here, one_less a (b +ℤ c), one_less a b, one_less a c)
 
 distributes_zero : (b c : ℤ) → pos 0 *ℤ (b +ℤ c) ≡ (pos 0 *ℤ b) +ℤ (pos 0 *ℤ c)
@@ -43,8 +44,10 @@ pub product-assoc : (a b c : ℤ) → (a *ℤ b) *ℤ c ≡ a *ℤ (b *ℤ c)
 product-assoc a b c =
     ℤ_ind (λ (z : ℤ). (z *ℤ b) *ℤ c ≡ z *ℤ (b *ℤ c))
     (ap (λ (z : ℤ). z *ℤ c) (zero-*ℤ b) ∙ (zero-*ℤ c ∙ sym (zero-*ℤ (b *ℤ c))))
-    (λ (n : ℕ) h. ap (λ (z : ℤ). z *ℤ c) (one_more (pos n) b) ∙ (sum-product (pos n *ℤ b) b c ∙ (ap (λ (z : ℤ). z +ℤ (b *ℤ c)) h ∙ sym (one_more (pos n) (b *ℤ c)))))
-    (λ (n : ℕ) h. ap (λ (z : ℤ). z *ℤ c) (one_less (neg_ℤ (pos n)) b) ∙ (difference-product (neg_ℤ (pos n) *ℤ b) b c ∙ (ap (λ (z : ℤ). z -ℤ (b *ℤ c)) h ∙ sym (one_less (neg_ℤ (pos n)) (b *ℤ c)))))
+    (λ (n : ℕ) h. ap (λ (z : ℤ). z *ℤ c) (one_more (pos n) b)
+    ∙ (sum-product (pos n *ℤ b) b c ∙ (ap (λ (z : ℤ). z +ℤ (b *ℤ c)) h ∙ sym (one_more (pos n) (b *ℤ c)))))
+    (λ (n : ℕ) h. ap (λ (z : ℤ). z *ℤ c) (one_less (neg_ℤ (pos n)) b)
+    ∙ (difference-product (neg_ℤ (pos n) *ℤ b) b c ∙ (ap (λ (z : ℤ). z -ℤ (b *ℤ c)) h ∙ sym (one_less (neg_ℤ (pos n)) (b *ℤ c)))))
     a
 
 -- a multiple by a natural number keeps the order

@@ -99,7 +99,8 @@ pub total_by-append : {X : Type 0} (f : X → ℤ) (xs ys : List X) → total_by
 total_by-append f [] ys = omega (arith, ints)
 total_by-append f (x ∷ xs) ys = let rest = total_by-append f xs ys in omega (arith, ints, rest)
 
-pub total_by-more : {X : Type 0} (f : X → ℤ) (xs : List X) (i : ℕ) (d : X) → i < length xs → total_by f (take (i + 1) xs) ≡ total_by f (take i xs) +ℤ f (get_or xs i d)
+pub total_by-more : {X : Type 0} (f : X → ℤ) (xs : List X) (i : ℕ) (d : X) → i < length xs → total_by f (take (i + 1) xs) ≡ total_by f (take i xs)
+    +ℤ f (get_or xs i d)
 total_by-more f xs i d there =
     let split = ap (total_by f) (take_more xs i d there) in
     let parts = total_by-append f (take i xs) (get_or xs i d ∷ []) in
@@ -143,7 +144,8 @@ total_by_pairs-below n f (x ∷ xs) (y ∷ ys) =
     let parts = total_below-sum n (f x y) (λ k. total_by_pairs (λ v w. f v w k) xs ys) in
     cc
 
-pub total_by_pairs-scaled : {X Y : Type 0} (a : ℤ) (f : X → Y → ℤ) (xs : List X) (ys : List Y) → total_by_pairs (λ x y. f x y *ℤ a) xs ys ≡ total_by_pairs f xs ys *ℤ a
+pub total_by_pairs-scaled : {X Y : Type 0} (a : ℤ) (f : X → Y → ℤ) (xs : List X) (ys : List Y) → total_by_pairs (λ x y. f x y *ℤ a) xs ys
+    ≡ total_by_pairs f xs ys *ℤ a
 total_by_pairs-scaled a f [] ys = sym (zero-*ℤ a)
 total_by_pairs-scaled a f (x ∷ xs) [] = sym (zero-*ℤ a)
 total_by_pairs-scaled a f (x ∷ xs) (y ∷ ys) =

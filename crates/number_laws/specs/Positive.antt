@@ -14,13 +14,15 @@ pub record IsLeastAbove (z : ℤ) (part : ℕ) : Type 0 where
 
 -- a natural factor comes out
 abbrev pub ScalesWithNaturals : Type 0
-ScalesWithNaturals = (k : ℕ) (z : ℤ) → (positive_part (pos k *ℤ z) ≡ k * positive_part z) × (positive_part (z *ℤ pos k) ≡ positive_part z * k)
+ScalesWithNaturals = (k : ℕ) (z : ℤ) → (positive_part (pos k *ℤ z) ≡ k * positive_part z) ×
+    (positive_part (z *ℤ pos k) ≡ positive_part z * k)
 
 -- of a sum it is at most the sum
 abbrev pub IsSubadditive : Type 0
 IsSubadditive = (y z : ℤ) → positive_part (y +ℤ z) ≤ positive_part y + positive_part z
 
--- a multiple by a number from low to high is at most the greater of the two multiples at the ends, which is the one by low, and the positive part for each step from there
+-- a multiple by a number from low to high is at most the greater of the two multiples at the ends, which is the one by
+-- low, and the positive part for each step from there
 abbrev pub BoundsMultiples : Type 0
 BoundsMultiples =
     (z : ℤ) (low high : ℕ) → low ≤ high →

@@ -15,7 +15,14 @@ pub record Basin : Type 0 where
 
 -- a sink as it begins
 abbrev pub basin_of : ℕ → ℕ → List ℕ → Basin
-basin_of piece room failing = record { taken = []; piece = piece; room = room; failing = failing; calls = 0; faults = 0 }
+basin_of piece room failing = record {
+  taken = [];
+  piece = piece;
+  room = room;
+  failing = failing;
+  calls = 0;
+  faults = 0;
+}
 
 -- the bytes that the next write takes, if it takes any
 abbrev pub next_piece : Basin → List ℕ → List ℕ
@@ -24,7 +31,8 @@ next_piece sink bytes = take sink.piece bytes
 -- the next write fails: it is listed, or what it would take goes beyond the room
 abbrev pub write_fails : Basin → List ℕ → Bool
 write_fails sink bytes =
-    is_listed sink.failing (next_count sink.calls) || nat_lt sink.room (length sink.taken + length (next_piece sink bytes))
+    is_listed sink.failing (next_count sink.calls)
+    || nat_lt sink.room (length sink.taken + length (next_piece sink bytes))
 
 -- the sink after a write of these bytes: one more call, and the piece taken or one more fault
 abbrev pub after_write : Basin → List ℕ → Basin

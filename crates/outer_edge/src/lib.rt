@@ -5,7 +5,9 @@
 //! clauses alone. What a file holds, and what was written, is claimed only where the shelf or the
 //! sink tells it. A fault of the outside shows in a count: each named fault comes only where the
 //! count of the very object that was handed in rose in that call, for that name and that limit, and
-//! no count ever falls. Want of memory alone shows nowhere.
+//! no count ever falls. Nor is a fault hidden: a call that answers otherwise leaves the counts of that
+//! fault as they were, so that nobody can fail, try again and say nothing of it. Want of memory alone
+//! shows nowhere.
 //!
 //! [`MemoryShelf`] and [`MemorySink`] tell all, their calls fail by a list, and their contracts are
 //! exact. [`DirShelf`], [`OutSink`] and [`FreeGate`] are the trusted edge to the system: they keep

@@ -1,4 +1,5 @@
-ghost use Rattle.std.specs.Prelude.{◌≡◌, ◌≤◌, ◌<◌, IfOk, IfSome, length, vec_len};
+ghost use Rattle.std.specs.Prelude.{◌≡◌, ◌+◌, ◌≤◌, ◌<◌, IfOk, IfSome, length, vec_len};
+ghost use Rattle.outer_edge.specs.Reading.{ConsumesAtMost};
 ghost use Rattle.outer_edge.specs.ShelfFault.{OnTooLong};
 
 use crate::shelf::ShelfFault;
@@ -7,8 +8,8 @@ use std::io::{ErrorKind, Read};
 
 pub(crate) const BUFFER_LEN: usize = 8192;
 
-// What a reader has left, where it is no more than the limit. It never reads more than one byte past
-// the limit, and keeps none past it.
+// What a reader has left, where it is no more than the limit. It reads at most one byte past the limit,
+// and keeps none past it.
 pub(crate) fn read_rest<F: Read>(
     file: &mut F,
     alloc: Global,
@@ -17,6 +18,7 @@ pub(crate) fn read_rest<F: Read>(
     ensures within { IfOk result (λ bytes. vec_len bytes ≤ limit) }
     ensures whole { IfOk result (λ bytes. IfSome (F.remaining file.old) (λ rest. bytes.items ≡ rest)) }
     ensures longer { OnTooLong result (IfSome (F.remaining file.old) (λ rest. limit < length rest)) }
+    ensures frugal { ConsumesAtMost (F.remaining file.old) (F.remaining file.new) (limit + 1) }
 {
     let mut bytes = Vec::new(alloc);
     let mut buffer = [0u8; BUFFER_LEN];

@@ -15,7 +15,7 @@ pub enum ShelfFault {
 pub trait Shelf {
     ghost use Rattle.std.specs.Prelude.{◌≡◌, ◌≤◌, ◌<◌, ℕ, List, Option, IfOk, IfSome, length, vec_len};
     ghost use Rattle.outer_edge.specs.Rose.{Rose};
-    ghost use Rattle.outer_edge.specs.ShelfFault.{OnFailed, OnTooLong};
+    ghost use Rattle.outer_edge.specs.ShelfFault.{OnFailed, OnTooLong, UnlessFailed, UnlessTooLong};
 
     /// The bytes of the file of a name, where the shelf tells them.
     ghost told: { Self → List ℕ → Option (List ℕ) };
@@ -35,6 +35,12 @@ pub trait Shelf {
         ensures failed { OnFailed result (Rose (faults self.old name.now) (faults self.new name.now)) }
         ensures too_long { OnTooLong result (Rose (longs self.old name.now limit) (longs self.new name.now limit)) }
         ensures longer { OnTooLong result (IfSome (told self.old name.now) (λ file. limit < length file)) }
+
+        // And no fault is hidden: where the answer is another, the counts of every name are as they were.
+        ensures no_failure_hidden { (other : List ℕ) →
+            UnlessFailed result (faults self.new other ≡ faults self.old other) }
+        ensures no_length_hidden { (other : List ℕ) (most : ℕ) →
+            UnlessTooLong result (longs self.new other most ≡ longs self.old other most) }
 
         // Whatever the answer, what is told of any name stays, and no count falls.
         ensures told_stays { told self.new ≡ told self.old }

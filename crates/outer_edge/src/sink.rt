@@ -22,6 +22,7 @@ pub trait Sink {
         ensures takes { IfOk result (λ count. Takes (taken self.old) (taken self.new) (take count bytes.now)) }
         ensures takes_none { OnErr result (Takes (taken self.old) (taken self.new) []) }
         ensures failed { OnErr result (Rose (faults self.old) (faults self.new)) }
+        ensures no_failure_hidden { OnOk result (faults self.new ≡ faults self.old) }
         ensures faults_stay { faults self.old ≤ faults self.new };
 }
 
@@ -30,6 +31,7 @@ pub fn write_all<K: Sink>(out: &mut K, text: &[u8]) -> Result<(), SinkFailed>
     ensures whole { OnOk result (Takes (K.taken out.old) (K.taken out.new) text.now) }
     ensures part { OnErr result (TakesPart (K.taken out.old) (K.taken out.new) text.now) }
     ensures failed { OnErr result (Rose (K.faults out.old) (K.faults out.new)) }
+    ensures no_failure_hidden { OnOk result (K.faults out.new ≡ K.faults out.old) }
     ensures faults_stay { K.faults out.old ≤ K.faults out.new }
 
     // With nothing to write it calls nothing.

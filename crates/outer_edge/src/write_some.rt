@@ -7,7 +7,8 @@ use std::io::{ErrorKind, Write};
 pub(crate) fn write_some<W: Write>(writer: &mut W, bytes: &[u8]) -> Option<usize>
     ensures some { IfSome result (λ count. 1 ≤ count) }
     ensures within { IfSome result (λ count. count ≤ length bytes.now) }
-    ensures takes { IfSome result (λ count. Appends (W.contents writer.old) (W.contents writer.new) (take count bytes.now)) }
+    ensures takes { IfSome result
+        (λ count. Appends (W.contents writer.old) (W.contents writer.new) (take count bytes.now)) }
     ensures takes_none { IfNone result (Keeps (W.contents writer.old) (W.contents writer.new)) }
 {
     for _ in 0..u64::MAX {

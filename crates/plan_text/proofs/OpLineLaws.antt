@@ -67,13 +67,15 @@ op_line_words-are_words line fits = (
 )
 
 -- the two sides of what a reader answers
-pub op_line-found : (bytes : List ℕ) (answer : Option OpLine) → answer ≡ op_line_at (words_of bytes) → IfSome answer (λ line. IsOpLine line × (bytes ≡ op_line_bytes line))
+pub op_line-found : (bytes : List ℕ) (answer : Option OpLine) → answer ≡ op_line_at (words_of bytes) →
+    IfSome answer (λ line. IsOpLine line × (bytes ≡ op_line_bytes line))
 op_line-found bytes None given = tt
 op_line-found bytes (Some line) given =
     let read = op_line_at-some (words_of bytes) line (sym given) in
     (read.1, sym (line_of-words_of bytes) ∙ ap line_of read.0)
 
-pub op_line-none : (bytes : List ℕ) (answer : Option OpLine) → answer ≡ op_line_at (words_of bytes) → IfNone answer ((line : OpLine) → IsOpLine line → bytes ≢ op_line_bytes line)
+pub op_line-none : (bytes : List ℕ) (answer : Option OpLine) → answer ≡ op_line_at (words_of bytes) →
+    IfNone answer ((line : OpLine) → IsOpLine line → bytes ≢ op_line_bytes line)
 op_line-none bytes None given = λ line fits text.
     let words = ap words_of text ∙ words_of-line_of (codes "op") _ (op_line_words-are_words line fits) in
     none-some line (given ∙ ap op_line_at words ∙ op_line_at-again line fits)

@@ -1,2 +1,2 @@
 pub mod OpLine
-pub mod Fields
+pub mod inside

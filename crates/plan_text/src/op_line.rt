@@ -3,7 +3,7 @@ ghost use Rattle.std.specs.Option.{option_map};
 ghost use Rattle.line_text.specs.Words.{words_of};
 ghost use Rattle.plan_text.specs.OpLine.{op_line_bytes, IsOpLine, op_line_at};
 ghost use Rattle.plan_text.specs.declared.op_line.OpLine.{OpLine};
-ghost use Rattle.plan_text.specs.Fields.{fields_line};
+ghost use Rattle.plan_text.specs.inside.Fields.{fields_line};
 
 use item_lists::Items;
 use line_text::{Words, keep_whole, push_number, push_text, push_word};
@@ -104,7 +104,8 @@ fn op_line_of(alloc: Global, line: &[u8]) -> Result<Option<OpLine>, AllocError>
 /// line.
 pub fn read_op_line(alloc: Global, line: &[u8]) -> Result<Option<OpLine>, AllocError>
     ensures found { IfOk result (λ answer. IfSome answer (λ read. IsOpLine read × (line.now ≡ op_line_bytes read))) }
-    ensures none { IfOk result (λ answer. IfNone answer ((other : OpLine) → IsOpLine other → line.now ≢ op_line_bytes other)) }
+    ensures none { IfOk result
+        (λ answer. IfNone answer ((other : OpLine) → IsOpLine other → line.now ≢ op_line_bytes other)) }
     ensures exact { IfOk result (λ answer. answer ≡ op_line_at (words_of line.now)) }
 {
     op_line_of(alloc, line)

@@ -18,7 +18,8 @@ known_op parts name v first within =
     rw first ((bytes_eq-Decides _ name).0 passes)
 
 -- where the first would stand past the end, no operation has it
-pub unknown_op : (parts : Parts) (name : List ℕ) (found : ℕ) → found ≡ position_of name (op_names_of parts) → op_count_of parts ≤ found → (v : ℕ) → v < op_count_of parts → op_name_of parts v ≢ name
+pub unknown_op : (parts : Parts) (name : List ℕ) (found : ℕ) → found ≡ position_of name (op_names_of parts) → op_count_of parts ≤ found → (v : ℕ)
+    → v < op_count_of parts → op_name_of parts v ≢ name
 unfolding op_name_of
 unknown_op parts name found first past v within same =
     let fails = fails_before_first (λ other. bytes_eq other name) (op_names_of parts) v [] (omega arith) in

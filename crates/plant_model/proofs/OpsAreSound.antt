@@ -4,6 +4,7 @@ use Rattle.std.proofs.lemmas.List.{get_or-map, length-map}
 use Rattle.std.proofs.lemmas.Option.{slice_get_within, get_or_from_slice_get}
 use Rattle.std.proofs.lemmas.Int.{ints}
 use Rattle.std.specs.Prelude.{ℤ, pos, negsuc, ◌≤ℤ◌, ◌<ℤ◌}
+use Rattle.limits.specs.declared.TheConstants.{MOST_PLACES, MOST_RATE, MOST_VOLUME}
 use Rattle.plant_model.specs.declared.parts.Pair.{Pair}
 use Rattle.plant_model.specs.declared.parts.VesselPart.{VesselPart}
 use Rattle.plant_model.specs.declared.parts.OperationPart.{OperationPart}
@@ -16,7 +17,7 @@ use Rattle.plant_model.specs.declared.details.Op.{Op}
 use Rattle.plant_model.specs.declared.details.OpKind.TheVariants.{Charge}
 use Rattle.plant_model.specs.Faults.{is_route, limit_count}
 use Rattle.plant_model.specs.Sound.{IsRoute, SoundOp}
-use Rattle.plant_model.specs.SoundParts.{FewEntries, SoundOperation, SoundParts}
+use Rattle.plant_model.specs.inside.SoundParts.{FewEntries, SoundOperation, SoundParts}
 use Rattle.plant_model.proofs.PlaceLists.{in_a_row, length-per_place, natural_le, natural_range}
 
 natural_lt : (a b : ℤ) → pos 0 ≤ℤ a → a <ℤ b → natural a < natural b
@@ -32,7 +33,8 @@ route_is (Some Charging) (Some DistillationUnit) h = (Charging, DistillationUnit
 route_is _ _ h = cc
 
 -- a place that is known by name
-known_place : (parts : Parts) (name : List ℕ) (kind : PlaceKind) → kind_named parts name ≡ Some kind → (place_by_name_of parts name < place_count_of parts) × ((place_of parts (place_by_name_of parts name)).kind ≡ kind)
+known_place : (parts : Parts) (name : List ℕ) (kind : PlaceKind) → kind_named parts name ≡ Some kind
+    → (place_by_name_of parts name < place_count_of parts) × ((place_of parts (place_by_name_of parts name)).kind ≡ kind)
 unfolding kind_named place_of places_of
 known_place parts name kind known =
     let number = place_by_name_of parts name in
@@ -40,11 +42,15 @@ known_place parts name kind known =
     let within : number < length kinds = slice_get_within kinds number kind known in
     let count = length-map (places_of parts) (λ (place : PlaceInfo). place.kind) in
     let all_places = length-per_place vessel_info storage_info charging_info unit_info parts in
-    let inside : number < length (places_of parts) = omega arith in
-    (omega arith, sym (get_or-map (λ (place : PlaceInfo). place.kind) (places_of parts) number no_place kind inside) ∙ get_or_from_slice_get kinds number kind kind known)
+    let inside : number < length (places_of parts) = omega arith in (
+      omega arith,
+      sym (get_or-map (λ (place : PlaceInfo). place.kind) (places_of parts) number no_place kind inside)
+          ∙ get_or_from_slice_get kinds number kind kind known,
+    )
 
 -- no entry but a vessel arrives
-no_arrival : {X : Type 0} (info : X → PlaceInfo) → ((x : X) → (info x).arrival ≡ 0) → (xs : List X) (rest : List PlaceInfo) → ((n : ℕ) → (get_or rest n no_place).arrival ≡ 0) → (n : ℕ) → (get_or (map info xs ++ rest) n no_place).arrival ≡ 0
+no_arrival : {X : Type 0} (info : X → PlaceInfo) → ((x : X) → (info x).arrival ≡ 0) → (xs : List X) (rest : List PlaceInfo)
+    → ((n : ℕ) → (get_or rest n no_place).arrival ≡ 0) → (n : ℕ) → (get_or (map info xs ++ rest) n no_place).arrival ≡ 0
 no_arrival info each [] rest later n = later n
 no_arrival info each (x ∷ xs) rest later zero = each x
 no_arrival info each (x ∷ xs) rest later (suc n) = no_arrival info each xs rest later n
@@ -54,12 +60,14 @@ none_arrives info each [] n = refl
 none_arrives info each (x ∷ xs) zero = each x
 none_arrives info each (x ∷ xs) (suc n) = none_arrives info each xs n
 
-vessels_arrive : (vessels : List VesselPart) (rest : List PlaceInfo) → ((n : ℕ) → (get_or rest n no_place).arrival ≡ 0) → (n : ℕ) → (get_or (map vessel_info vessels ++ rest) n no_place).arrival ≡ natural (get_or (map (λ (vessel : VesselPart). vessel.arrival) vessels) n (pos 0))
+vessels_arrive : (vessels : List VesselPart) (rest : List PlaceInfo) → ((n : ℕ) → (get_or rest n no_place).arrival ≡ 0) → (n : ℕ)
+    → (get_or (map vessel_info vessels ++ rest) n no_place).arrival ≡ natural (get_or (map (λ (vessel : VesselPart). vessel.arrival) vessels) n (pos 0))
 vessels_arrive [] rest later n = later n
 vessels_arrive (x ∷ xs) rest later zero = refl
 vessels_arrive (x ∷ xs) rest later (suc n) = vessels_arrive xs rest later n
 
-pub place_arrival : (parts : Parts) (p : ℕ) → (place_of parts p).arrival ≡ natural (get_or (map (λ (vessel : VesselPart). vessel.arrival) parts.vessels) p (pos 0))
+pub place_arrival : (parts : Parts) (p : ℕ)
+    → (place_of parts p).arrival ≡ natural (get_or (map (λ (vessel : VesselPart). vessel.arrival) parts.vessels) p (pos 0))
 unfolding place_of places_of
 place_arrival parts p =
     ap (λ row. (get_or row p no_place).arrival) (in_a_row (map vessel_info parts.vessels) _ _ _)
@@ -78,8 +86,8 @@ sound_resolved parts operation sound =
       from_place = source.0;
       to_place = destination.0;
       route = rw (source.1, destination.1) route.4;
-      rate = natural_range 0 10000000 operation.rate sound.rate;
-      volume = natural_range 1 10000000 operation.volume sound.volume;
+      rate = natural_range 0 MOST_RATE operation.rate sound.rate;
+      volume = natural_range 1 MOST_VOLUME operation.volume sound.volume;
       window = natural_lt operation.window.lo operation.window.hi sound.window.from_low sound.not_empty;
       within_horizon = natural_le operation.window.hi parts.horizon sound.window.to_high;
       after_arrival = rw (place_arrival parts (place_by_name_of parts operation.from)) (natural_le _ operation.window.lo sound.after_arrival);
@@ -114,7 +122,8 @@ charging_source Charging l route charge = refl
 charging_source DistillationUnit l route charge = route.0
 
 -- a charge has a limit for each property
-pub charge_limits : (parts : Parts) (v : ℕ) (operation : OperationPart) → v < op_count_of parts → operation ≡ get_or parts.operations v operation → SoundOperation parts operation → (op_of parts v).kind ≡ Charge → length operation.limits ≡ property_count_of parts
+pub charge_limits : (parts : Parts) (v : ℕ) (operation : OperationPart) → v < op_count_of parts → operation ≡ get_or parts.operations v operation
+    → SoundOperation parts operation → (op_of parts v).kind ≡ Charge → length operation.limits ≡ property_count_of parts
 unfolding resolved property_count_of
 charge_limits parts v operation within is sound charge =
     let route = route_is _ _ sound.route in
@@ -125,11 +134,12 @@ charge_limits parts v operation within is sound charge =
     sound.limit_count ∙ ap (limit_count (length parts.properties)) from_charging
 
 -- both ends of an operation are places, of which there are few
-pub ends_within : (parts : Parts) (operation : OperationPart) → SoundOperation parts operation → (place_by_name_of parts operation.from < place_count_of parts) × (place_by_name_of parts operation.to < place_count_of parts)
+pub ends_within : (parts : Parts) (operation : OperationPart) → SoundOperation parts operation
+    → (place_by_name_of parts operation.from < place_count_of parts) × (place_by_name_of parts operation.to < place_count_of parts)
 ends_within parts operation sound =
     let route = route_is _ _ sound.route in
     ((known_place parts operation.from route.0 route.2).0, (known_place parts operation.to route.1 route.3).0)
 
-pub few_places : (parts : Parts) → FewEntries parts → place_count_of parts ≤ 42
+pub few_places : (parts : Parts) → FewEntries parts → place_count_of parts ≤ MOST_PLACES
 unfolding place_count_of
 few_places parts few = omega arith

@@ -1,14 +1,13 @@
 -- Laws of the relations between two operations.
-use Rattle.std.proofs.Common.{◌≡◌, ◌∙◌, sym, ap, refl, ℕ, Bool, true, false, not, ◌&&◌, ◌||◌, eqb, arith}
+use Rattle.std.proofs.Common.{◌≡◌, sym, ap, refl, ℕ, Bool, true, false, not, ◌&&◌, ◌||◌, arith}
 use Rattle.std.proofs.lemmas.Bool.{or_parts}
 use Rattle.std.proofs.lemmas.Bool.Decides.{nat_tests}
 use Rattle.std.specs.Prelude.{◌≢◌, ◌==◌}
 use Rattle.plant_model.specs.declared.parts.Parts.{Parts}
-use Rattle.plant_model.specs.declared.details.Op.{Op}
 use Rattle.plant_model.specs.declared.details.OpKind.{OpKind}
-use Rattle.plant_model.specs.declared.details.OpKind.TheVariants.{Unload, Transfer, Charge}
-use Rattle.plant_model.specs.Parts.{op_of}
-use Rattle.plant_model.specs.Relations.{is_unload, is_charge, both_unload, one_feeds_other, both_charge_from_one_tank, both_charge_one_unit, refused_at_once_of, ordered_of, independent_of, AreApart}
+use Rattle.plant_model.specs.declared.details.OpKind.TheVariants.{Unload, Charge}
+use Rattle.plant_model.specs.Parts.{op_of, place_of}
+use Rattle.plant_model.specs.Relations.{is_unload, is_charge, share_berth, one_feeds_other, both_charge_from_one_tank, both_charge_one_unit, refused_at_once_of, ordered_of, independent_of, AreApart}
 
 equal_symmetric : (a b : ℕ) → (a == b) ≡ (b == a)
 equal_symmetric a b = grind (arith, nat_tests)
@@ -44,7 +43,15 @@ unfolding refused_at_once_of
 refused_at_once_of-symmetric parts v w =
     let a = op_of parts v in
     let b = op_of parts w in
-    rw (equal_symmetric v w, both_symmetric (is_unload a.kind) (is_unload b.kind), either_symmetric (a.to == b.from) (b.to == a.from), both_symmetric (is_charge a.kind) (is_charge b.kind), equal_symmetric a.from b.from, equal_symmetric a.to b.to) refl
+    rw (
+      equal_symmetric v w,
+      both_symmetric (is_unload a.kind) (is_unload b.kind),
+      equal_symmetric (place_of parts a.from).berth (place_of parts b.from).berth,
+      either_symmetric (a.to == b.from) (b.to == a.from),
+      both_symmetric (is_charge a.kind) (is_charge b.kind),
+      equal_symmetric a.from b.from,
+      equal_symmetric a.to b.to,
+    ) refl
 
 pub ordered_of-symmetric : (parts : Parts) (v w : ℕ) → ordered_of parts v w ≡ ordered_of parts w v
 unfolding ordered_of
@@ -63,8 +70,8 @@ pub ordered_of-reflexive : (parts : Parts) (v : ℕ) → ordered_of parts v v �
 ordered_of-reflexive parts v = ordered_from_refused parts v v (refused_at_once_of-reflexive parts v)
 
 -- tests of the kinds that fail
-not_both_unload : (k l : OpKind) → (is_unload k && is_unload l) ≡ false → k ≡ Unload → l ≢ Unload
-not_both_unload k l h first second = let both : (is_unload k && is_unload l) ≡ true = rw (first, second) refl in cc
+not_one_berth : (k l : OpKind) (a b : ℕ) → (is_unload k && is_unload l && a == b) ≡ false → k ≡ Unload → l ≡ Unload → a ≢ b
+not_one_berth k l a b h first second same = let all : (is_unload k && is_unload l && a == b) ≡ true = rw (first, second, same) (equal_reflexive b) in cc
 
 not_one_unit : (k l : OpKind) (a b : ℕ) → (is_charge k && is_charge l && a == b) ≡ false → k ≡ Charge → l ≡ Charge → a ≢ b
 not_one_unit k l a b h first second same = let all : (is_charge k && is_charge l && a == b) ≡ true = rw (first, second, same) (equal_reflexive b) in cc
@@ -75,17 +82,17 @@ apart_from_independent parts v w independent =
     let a = op_of parts v in
     let b = op_of parts w in
     let ordered = or_parts (refused_at_once_of parts v w) (a.from == b.from) (not_true (ordered_of parts v w) independent) in
-    let unit = or_parts (v == w || both_unload a b || one_feeds_other a b || both_charge_from_one_tank a b) (both_charge_one_unit a b) ordered.0 in
-    let tank = or_parts (v == w || both_unload a b || one_feeds_other a b) (both_charge_from_one_tank a b) unit.0 in
-    let feeds = or_parts (v == w || both_unload a b) (one_feeds_other a b) tank.0 in
-    let unloads = or_parts (v == w) (both_unload a b) feeds.0 in
+    let unit = or_parts (v == w || share_berth parts a b || one_feeds_other a b || both_charge_from_one_tank a b) (both_charge_one_unit a b) ordered.0 in
+    let tank = or_parts (v == w || share_berth parts a b || one_feeds_other a b) (both_charge_from_one_tank a b) unit.0 in
+    let feeds = or_parts (v == w || share_berth parts a b) (one_feeds_other a b) tank.0 in
+    let unloads = or_parts (v == w) (share_berth parts a b) feeds.0 in
     let each = or_parts (a.to == b.from) (b.to == a.from) feeds.1 in
     record {
       different = unequal v w unloads.0;
       sources = unequal a.from b.from ordered.1;
       first_feeds_not = unequal a.to b.from each.0;
       second_feeds_not = unequal b.to a.from each.1;
-      one_unloads = not_both_unload a.kind b.kind unloads.1;
+      berths = not_one_berth a.kind b.kind (place_of parts a.from).berth (place_of parts b.from).berth unloads.1;
       units = not_one_unit a.kind b.kind a.to b.to unit.1;
     }
 

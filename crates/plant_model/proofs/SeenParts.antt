@@ -12,21 +12,24 @@ use Rattle.plant_model.specs.declared.place.Section.{Section}
 use Rattle.plant_model.specs.declared.place.Section.TheVariants.{Plant, Properties, Crudes, Vessels, Storage, Charging, Units, Operations}
 use Rattle.plant_model.specs.declared.place.PlantFault.{PlantFault}
 use Rattle.plant_model.specs.Parts.{seen_parts, without_demand, places_of, place_names_of, place_by_name_of, kind_named, arrival_named, storage_info, position_of}
-use Rattle.plant_model.specs.Faults.{count_faults, name_faults, all_name_faults, names_beside, names_before, repeat_faults, all_repeat_faults, crude_faults, amount_count_faults, amount_faults, all_amount_faults, all_arrival_faults, level_faults, first_level_faults, level_and_demand_faults, unknown_place_faults, route_faults, range_faults, operation_faults, entry_faults, faults_of}
+use Rattle.plant_model.specs.Faults.{count_faults, name_faults, all_name_faults, names_beside, names_before, repeat_faults, all_repeat_faults, crude_faults, amount_count_faults, amount_faults, all_amount_faults, all_arrival_faults, level_faults, first_level_faults, level_and_demand_faults, unknown_place_faults, route_faults, range_faults, operation_faults, berthing_faults, entry_faults, faults_of}
 
 -- what is read of tanks besides the demand
-map_seen : {X : Type 0} (f : TankPart → X) → ((tank : TankPart) → f (without_demand tank) ≡ f tank) → (tanks : List TankPart) → map f (map without_demand tanks) ≡ map f tanks
+map_seen : {X : Type 0} (f : TankPart → X) → ((tank : TankPart) → f (without_demand tank) ≡ f tank) → (tanks : List TankPart)
+    → map f (map without_demand tanks) ≡ map f tanks
 map_seen f same [] = refl
 map_seen f same (tank ∷ tanks) = ap (λ x. x ∷ map f (map without_demand tanks)) (same tank) ∙ ap (λ l. f tank ∷ l) (map_seen f same tanks)
 
-each_seen : (faults : ℕ → TankPart → List PlantFault) → ((index : ℕ) (tank : TankPart) → faults index (without_demand tank) ≡ faults index tank) → (index : ℕ) (tanks : List TankPart) → each_from faults index (map without_demand tanks) ≡ each_from faults index tanks
+each_seen : (faults : ℕ → TankPart → List PlantFault) → ((index : ℕ) (tank : TankPart) → faults index (without_demand tank) ≡ faults index tank)
+    → (index : ℕ) (tanks : List TankPart) → each_from faults index (map without_demand tanks) ≡ each_from faults index tanks
 each_seen faults same index [] = refl
 each_seen faults same index (tank ∷ tanks) =
     ap (λ front. front ++ each_from faults (index + 1) (map without_demand tanks)) (same index tank)
     ∙ ap (λ rest. faults index tank ++ rest) (each_seen faults same (index + 1) tanks)
 
 -- entries with the same faults one by one
-each_same : {X : Type 0} (faults others : ℕ → X → List PlantFault) → ((index : ℕ) (x : X) → faults index x ≡ others index x) → (index : ℕ) (xs : List X) → each_from faults index xs ≡ each_from others index xs
+each_same : {X : Type 0} (faults others : ℕ → X → List PlantFault) → ((index : ℕ) (x : X) → faults index x ≡ others index x)
+    → (index : ℕ) (xs : List X) → each_from faults index xs ≡ each_from others index xs
 each_same faults others same index [] = refl
 each_same faults others same index (x ∷ xs) =
     ap (λ front. front ++ each_from faults (index + 1) xs) (same index x)
@@ -82,14 +85,18 @@ names_before_seen parts Charging = rw (length-map parts.storage without_demand) 
 names_before_seen parts Units = rw (length-map parts.storage without_demand) refl
 names_before_seen parts Operations = refl
 
-repeat_faults_seen : (parts : Parts) (section : Section) (index : ℕ) (name : List ℕ) → repeat_faults (seen_parts parts) section index name ≡ repeat_faults parts section index name
+repeat_faults_seen : (parts : Parts) (section : Section) (index : ℕ) (name : List ℕ)
+    → repeat_faults (seen_parts parts) section index name ≡ repeat_faults parts section index name
 repeat_faults_seen parts section index name = rw (names_beside_seen parts section, names_before_seen parts section) refl
 
-each_repeat_seen : {X : Type 0} (parts : Parts) (section : Section) (name : X → List ℕ) (xs : List X) → each_from (λ index (x : X). repeat_faults (seen_parts parts) section index (name x)) 1 xs ≡ each_from (λ index (x : X). repeat_faults parts section index (name x)) 1 xs
+each_repeat_seen : {X : Type 0} (parts : Parts) (section : Section) (name : X → List ℕ) (xs : List X)
+    → each_from (λ index (x : X). repeat_faults (seen_parts parts) section index (name x)) 1 xs
+    ≡ each_from (λ index (x : X). repeat_faults parts section index (name x)) 1 xs
 each_repeat_seen parts section name xs = each_same _ _ (λ index x. repeat_faults_seen parts section index (name x)) 1 xs
 
 -- seven lists in a row
-joined : {X : Type 0} (a b c d e f g a' b' c' d' e' f' g' : List X) → a ≡ a' → b ≡ b' → c ≡ c' → d ≡ d' → e ≡ e' → f ≡ f' → g ≡ g' → a ++ b ++ c ++ d ++ e ++ f ++ g ≡ a' ++ b' ++ c' ++ d' ++ e' ++ f' ++ g'
+joined : {X : Type 0} (a b c d e f g a' b' c' d' e' f' g' : List X) → a ≡ a' → b ≡ b' → c ≡ c' → d ≡ d' → e ≡ e' → f ≡ f' → g ≡ g'
+    → a ++ b ++ c ++ d ++ e ++ f ++ g ≡ a' ++ b' ++ c' ++ d' ++ e' ++ f' ++ g'
 joined a b c d e f g a' b' c' d' e' f' g' ea eb ec ed ee ef eg = rw (ea, eb, ec, ed, ee, ef, eg) refl
 
 all_repeat_faults_seen : (parts : Parts) → all_repeat_faults (seen_parts parts) ≡ all_repeat_faults parts
@@ -99,7 +106,8 @@ all_repeat_faults_seen parts =
     (each_repeat_seen parts Properties (λ name. name) parts.properties)
     (each_repeat_seen parts Crudes (λ (crude : CrudePart). crude.name) parts.crudes)
     (each_repeat_seen parts Vessels (λ (vessel : VesselPart). vessel.name) parts.vessels)
-    (each_seen (λ index (tank : TankPart). repeat_faults (seen_parts parts) Storage index tank.name) (λ index tank. refl) 1 parts.storage ∙ each_repeat_seen parts Storage (λ (tank : TankPart). tank.name) parts.storage)
+    (each_seen (λ index (tank : TankPart). repeat_faults (seen_parts parts) Storage index tank.name) (λ index tank. refl) 1 parts.storage
+    ∙ each_repeat_seen parts Storage (λ (tank : TankPart). tank.name) parts.storage)
     (each_repeat_seen parts Charging (λ (tank : TankPart). tank.name) parts.charging)
     (each_repeat_seen parts Units (λ (part : UnitPart). part.name) parts.units)
     (each_repeat_seen parts Operations (λ (operation : OperationPart). operation.name) parts.operations)
@@ -120,7 +128,8 @@ level_faults_seen parts =
       each_seen (first_level_faults Storage) (λ index tank. refl) 1 parts.storage,
     ) refl
 
-unknown_place_seen : (parts : Parts) (index : ℕ) (operation : OperationPart) → unknown_place_faults (seen_parts parts) index operation ≡ unknown_place_faults parts index operation
+unknown_place_seen : (parts : Parts) (index : ℕ) (operation : OperationPart)
+    → unknown_place_faults (seen_parts parts) index operation ≡ unknown_place_faults parts index operation
 unknown_place_seen parts index operation = rw (kind_named_seen parts operation.from, kind_named_seen parts operation.to) refl
 
 route_seen : (parts : Parts) (index : ℕ) (operation : OperationPart) → route_faults (seen_parts parts) index operation ≡ route_faults parts index operation
@@ -140,9 +149,16 @@ operation_faults_seen parts =
     ) refl
 
 pub faults_seen : (parts : Parts) → faults_of (seen_parts parts) ≡ faults_of parts
-unfolding faults_of entry_faults crude_faults all_arrival_faults seen_parts
+unfolding faults_of entry_faults crude_faults all_arrival_faults berthing_faults seen_parts
 faults_seen parts =
-    rw (count_faults_seen parts, name_faults_seen parts, all_repeat_faults_seen parts, amount_faults_seen parts, level_faults_seen parts, operation_faults_seen parts) refl
+    rw (
+      count_faults_seen parts,
+      name_faults_seen parts,
+      all_repeat_faults_seen parts,
+      amount_faults_seen parts,
+      level_faults_seen parts,
+      operation_faults_seen parts,
+    ) refl
 
 pub seen_twice : (parts : Parts) → seen_parts (seen_parts parts) ≡ seen_parts parts
 unfolding seen_parts

@@ -2,7 +2,8 @@
 use Rattle.std.proofs.Common.{◌≡◌, ◌∙◌, sym, ap, ℕ, ◌+◌, ◌<◌, ◌≤◌, List, [], ◌∷◌, ◌++◌, map, length, get_or, take, drop, set, arith, append_assoc}
 use Rattle.std.proofs.lemmas.List.{map_more, drop_more, set_at, get_or_at, take_all, drop_all, append-nil, length-map, length-take-le}
 
-pub walk_more : {X : Type 0} (f : X → X) (old now : List X) (i : ℕ) (d : X) → i < length old → now ≡ map f (take i old) ++ drop i old → set now i (f (get_or now i d)) ≡ map f (take (i + 1) old) ++ drop (i + 1) old
+pub walk_more : {X : Type 0} (f : X → X) (old now : List X) (i : ℕ) (d : X) → i < length old → now ≡ map f (take i old) ++ drop i old
+    → set now i (f (get_or now i d)) ≡ map f (take (i + 1) old) ++ drop (i + 1) old
 walk_more f old now i d within so_far =
     let count = length-map (take i old) f ∙ length-take-le i old (omega arith) in
     let next = get_or old i d in

@@ -13,12 +13,14 @@ pub record OneMore (total number : ℤ) (k : ℕ) : Type 0 where
   pub low : neg_ℤ (pos ((k + 1) * 2 ^ 63)) ≤ℤ (total +ℤ number)
   pub high : (total +ℤ number) ≤ℤ pos ((k + 1) * 2 ^ 63)
 
-pub one_more : (total number : ℤ) (k : ℕ) → neg_ℤ (pos (k * 2 ^ 63)) ≤ℤ total → total ≤ℤ pos (k * 2 ^ 63) → SFits w64 number → k < 2 ^ 60 → OneMore total number k
+pub one_more : (total number : ℤ) (k : ℕ) → neg_ℤ (pos (k * 2 ^ 63)) ≤ℤ total → total ≤ℤ pos (k * 2 ^ 63) → SFits w64 number → k < 2 ^ 60
+    → OneMore total number k
 one_more total number k low high fits few = record {
   fits = omega (arith, ints);
   low = omega (arith, ints);
   high = omega (arith, ints);
 }
 
-pub total_more : (numbers : List ℤ) (i : ℕ) (total : ℤ) → i < length numbers → total ≡ total_of (take i numbers) → total +ℤ get_or numbers i (pos 0) ≡ total_of (take (i + 1) numbers)
+pub total_more : (numbers : List ℤ) (i : ℕ) (total : ℤ) → i < length numbers → total ≡ total_of (take i numbers)
+    → total +ℤ get_or numbers i (pos 0) ≡ total_of (take (i + 1) numbers)
 total_more numbers i total within so_far = ap (λ z. z +ℤ get_or numbers i (pos 0)) so_far ∙ sym (fold_more ◌+ℤ◌ (pos 0) numbers i (pos 0) within)

@@ -1,9 +1,10 @@
--- What may be wrong with the parts of a plant: 22 kinds of fault, each with its place.
+-- What may be wrong with the parts of a plant: 24 kinds of fault, each with its place.
 -- They stand by number, and for one number in the order of the sections, then of the entries, then of the keys.
 use Rattle.std.specs.Prelude.{◌≡◌, ℕ, ◌+◌, ◌-◌, ℤ, pos, neg_ℤ, ◌+ℤ◌, int_le, int_lt, Bool, true, false, ◌&&◌, nat_le, ◌==◌, Option, Result, Some, is_some, List, [], ◌++◌, map, fold, length, slice_index_or}
 use Rattle.std.specs.List.{list_all}
 use Rattle.std.specs.Result.{result_err}
 use Rattle.std.specs.Borrow.{Bor}
+use Rattle.limits.specs.declared.TheConstants.{MOST_CRUDES, MOST_HORIZON, MOST_MARGIN, MOST_OPERATIONS, MOST_PROPERTIES, MOST_PROPERTY, MOST_RATE, MOST_SLOTS, MOST_TANKS, MOST_UNITS, MOST_VESSELS, MOST_VOLUME, MOST_BERTHS, MOST_DEMURRAGE}
 use Rattle.item_lists.specs.Faults.{first_of, unless, each_from}
 use Rattle.line_text.specs.Name.{is_name}
 use Rattle.plant_model.specs.declared.parts.Pair.{Pair}
@@ -16,7 +17,7 @@ use Rattle.plant_model.specs.declared.parts.Parts.{Parts}
 use Rattle.plant_model.specs.declared.place.Section.{Section}
 use Rattle.plant_model.specs.declared.place.Section.TheVariants.{Plant, Properties, Crudes, Vessels, Storage, Charging, Units, Operations}
 use Rattle.plant_model.specs.declared.place.Key.{Key}
-use Rattle.plant_model.specs.declared.place.Key.TheVariants.{List as ListKey, Horizon, Name, Margin, Properties as PropertiesKey, Arrival, Amounts, Min, Demand, Charges, From, To, Rate, Volume, Window, Limits}
+use Rattle.plant_model.specs.declared.place.Key.TheVariants.{List as ListKey, Horizon, Name, Margin, Properties as PropertiesKey, Arrival, Amounts, Berth, Demurrage, Min, Demand, Charges, From, To, Rate, Volume, Window, Limits}
 use Rattle.plant_model.specs.declared.place.PlantFault.{PlantFault}
 use Rattle.plant_model.specs.declared.place.PlantNewFault.{PlantNewFault}
 use Rattle.plant_model.specs.declared.place.PlantNewFault.TheVariants.{Fault, Memory}
@@ -26,7 +27,8 @@ use Rattle.plant_model.specs.Parts.{position_of, crude_names_of, place_names_of,
 
 -- a fault by its number and its place
 abbrev pub fault : ℕ → Section → ℕ → Key → PlantFault
-fault number section index key = record { number = number; place = record { section = section; index = index; key = key } }
+fault number section index key =
+    record { number = number; place = record { section = section; index = index; key = key } }
 
 -- whether the number is from low to high
 abbrev pub is_within : ℤ → ℤ → ℤ → Bool
@@ -41,28 +43,30 @@ abbrev pub total_of : List ℤ → ℤ
 total_of amounts = fold ◌+ℤ◌ (pos 0) amounts
 
 -- whatever faults of an entry the calls find the first of, the result is the first over all the entries
-abbrev pub FirstOfEach : {T : Type 0} → (ℕ → Bor T → Result (Unit {0}) PlantFault → Type 0) → List T → Result (Unit {0}) PlantFault → Type 0
+abbrev pub FirstOfEach : {T : Type 0} → (ℕ → Bor T → Result (Unit {0}) PlantFault → Type 0) → List T
+    → Result (Unit {0}) PlantFault → Type 0
 FirstOfEach {T} call_gives entries result =
     (faults : ℕ → T → List PlantFault)
-    → ((index : ℕ) (entry : Bor T) (found : Result (Unit {0}) PlantFault) → call_gives index entry found → result_err found ≡ first_of (faults index entry.now))
+    → ((index : ℕ) (entry : Bor T) (found : Result (Unit {0}) PlantFault) → call_gives index entry found
+    → result_err found ≡ first_of (faults index entry.now))
     → result_err result ≡ first_of (each_from faults 1 entries)
 
 -- ---- 1: the horizon; 2 to 7: how many entries the sections have
 
 -- a horizon of no minute, or of too many
 abbrev pub horizon_faults : Parts → List PlantFault
-horizon_faults parts = unless (is_within (pos 1) (pos 100000) parts.horizon) (fault 1 Plant 0 Horizon)
+horizon_faults parts = unless (is_within (pos 1) (pos MOST_HORIZON) parts.horizon) (fault 1 Plant 0 Horizon)
 
 -- that, and then each section that has too many entries, or no crude
 unfoldable pub count_faults : Parts → List PlantFault
 count_faults parts =
     horizon_faults parts
-    ++ unless (nat_le 1 (length parts.crudes) && nat_le (length parts.crudes) 12) (fault 2 Crudes 0 ListKey)
-    ++ unless (nat_le (length parts.properties) 6) (fault 3 Properties 0 ListKey)
-    ++ unless (nat_le (length parts.vessels) 12) (fault 4 Vessels 0 ListKey)
-    ++ unless (nat_le (length parts.storage + length parts.charging) 24) (fault 5 Storage 0 ListKey)
-    ++ unless (nat_le (length parts.units) 6) (fault 6 Units 0 ListKey)
-    ++ unless (nat_le (length parts.operations) 48) (fault 7 Operations 0 ListKey)
+    ++ unless (nat_le 1 (length parts.crudes) && nat_le (length parts.crudes) MOST_CRUDES) (fault 2 Crudes 0 ListKey)
+    ++ unless (nat_le (length parts.properties) MOST_PROPERTIES) (fault 3 Properties 0 ListKey)
+    ++ unless (nat_le (length parts.vessels) MOST_VESSELS) (fault 4 Vessels 0 ListKey)
+    ++ unless (nat_le (length parts.storage + length parts.charging) MOST_TANKS) (fault 5 Storage 0 ListKey)
+    ++ unless (nat_le (length parts.units) MOST_UNITS) (fault 6 Units 0 ListKey)
+    ++ unless (nat_le (length parts.operations) MOST_OPERATIONS) (fault 7 Operations 0 ListKey)
 
 -- ---- 8: names of the wrong form; 9: names that stood before
 
@@ -106,7 +110,8 @@ names_before parts Operations = 0
 -- the entry is not the first with its name
 abbrev pub repeat_faults : Parts → Section → ℕ → List ℕ → List PlantFault
 repeat_faults parts section index name =
-    unless (position_of name (names_beside parts section) == names_before parts section + index - 1) (fault 9 section index Name)
+    unless (position_of name (names_beside parts section) == names_before parts section + index - 1)
+    (fault 9 section index Name)
 
 -- section by section
 unfoldable pub all_repeat_faults : Parts → List PlantFault
@@ -117,21 +122,25 @@ all_repeat_faults parts =
     ++ each_from (λ index (tank : TankPart). repeat_faults parts Storage index tank.name) 1 parts.storage
     ++ each_from (λ index (tank : TankPart). repeat_faults parts Charging index tank.name) 1 parts.charging
     ++ each_from (λ index (part : UnitPart). repeat_faults parts Units index part.name) 1 parts.units
-    ++ each_from (λ index (operation : OperationPart). repeat_faults parts Operations index operation.name) 1 parts.operations
+    ++ each_from (λ index (operation : OperationPart). repeat_faults parts Operations index operation.name) 1
+    parts.operations
 
 -- ---- 10 to 12: crudes
 
 -- a margin that is too great, or too far below 0
 abbrev pub margin_faults : ℕ → CrudePart → List PlantFault
-margin_faults index crude = unless (is_within (neg_ℤ (pos 1000000)) (pos 1000000) crude.margin) (fault 10 Crudes index Margin)
+margin_faults index crude =
+    unless (is_within (neg_ℤ (pos MOST_MARGIN)) (pos MOST_MARGIN) crude.margin) (fault 10 Crudes index Margin)
 
 -- more or fewer values than the plant has properties
 abbrev pub property_count_faults : ℕ → ℕ → CrudePart → List PlantFault
-property_count_faults count index crude = unless (length crude.properties == count) (fault 11 Crudes index PropertiesKey)
+property_count_faults count index crude =
+    unless (length crude.properties == count) (fault 11 Crudes index PropertiesKey)
 
 -- a value of a property out of range
 abbrev pub property_faults : ℕ → CrudePart → List PlantFault
-property_faults index crude = unless (list_all (is_within (pos 0) (pos 1000000)) crude.properties) (fault 12 Crudes index PropertiesKey)
+property_faults index crude =
+    unless (list_all (is_within (pos 0) (pos MOST_PROPERTY)) crude.properties) (fault 12 Crudes index PropertiesKey)
 
 -- crude by crude, one kind of fault after another
 unfoldable pub crude_faults : Parts → List PlantFault
@@ -149,7 +158,8 @@ amount_count_faults count section index amounts = unless (length amounts == coun
 -- an amount out of range, or too much in all
 abbrev pub amount_faults : Section → ℕ → List ℤ → List PlantFault
 amount_faults section index amounts =
-    unless (list_all (is_within (pos 0) (pos 10000000)) amounts && int_le (total_of amounts) (pos 10000000)) (fault 14 section index Amounts)
+    unless (list_all (is_within (pos 0) (pos MOST_VOLUME)) amounts && int_le (total_of amounts) (pos MOST_VOLUME))
+    (fault 14 section index Amounts)
 
 -- what stands of the amounts of each vessel and tank
 abbrev pub each_amounts : (Section → ℕ → List ℤ → List PlantFault) → Parts → List PlantFault
@@ -160,7 +170,8 @@ each_amounts faults parts =
 
 -- one kind of fault after the other
 unfoldable pub all_amount_faults : Parts → List PlantFault
-all_amount_faults parts = each_amounts (amount_count_faults (length parts.crudes)) parts ++ each_amounts amount_faults parts
+all_amount_faults parts =
+    each_amounts (amount_count_faults (length parts.crudes)) parts ++ each_amounts amount_faults parts
 
 -- ---- 15 and 16: arrivals
 
@@ -170,7 +181,8 @@ arrival_faults horizon index vessel = unless (is_within (pos 0) horizon vessel.a
 
 -- the arrival of the vessel before the one at the index, which for the first is its own
 abbrev pub arrival_before : List VesselPart → ℕ → ℤ → ℤ
-arrival_before vessels index own = slice_index_or (map (λ (vessel : VesselPart). vessel.arrival) vessels) (index - 2) own
+arrival_before vessels index own =
+    slice_index_or (map (λ (vessel : VesselPart). vessel.arrival) vessels) (index - 2) own
 
 -- a vessel that arrives before the one ahead of it
 abbrev pub arrival_order_faults : List VesselPart → ℕ → VesselPart → List PlantFault
@@ -180,26 +192,28 @@ arrival_order_faults vessels index vessel =
 -- one kind of fault after the other
 unfoldable pub all_arrival_faults : Parts → List PlantFault
 all_arrival_faults parts =
-    each_from (arrival_faults parts.horizon) 1 parts.vessels ++ each_from (arrival_order_faults parts.vessels) 1 parts.vessels
+    each_from (arrival_faults parts.horizon) 1 parts.vessels
+    ++ each_from (arrival_order_faults parts.vessels) 1 parts.vessels
 
 -- ---- 17 and 18: levels of tanks; 19: demands, and charges of units
 
 -- levels that are no range
 abbrev pub level_faults : Section → ℕ → TankPart → List PlantFault
 level_faults section index tank =
-    unless (is_range (pos 0) (pos 10000000) (record { lo = tank.min; hi = tank.max })) (fault 17 section index Min)
+    unless (is_range (pos 0) (pos MOST_VOLUME) (record { lo = tank.min; hi = tank.max })) (fault 17 section index Min)
 
 -- a tank that begins with less than its least level, or with more than its greatest
 abbrev pub first_level_faults : Section → ℕ → TankPart → List PlantFault
-first_level_faults section index tank = unless (is_within tank.min tank.max (total_of tank.amounts)) (fault 18 section index Amounts)
+first_level_faults section index tank =
+    unless (is_within tank.min tank.max (total_of tank.amounts)) (fault 18 section index Amounts)
 
 -- a demand that is no range
 abbrev pub demand_faults : ℕ → TankPart → List PlantFault
-demand_faults index tank = unless (is_range (pos 0) (pos 10000000) tank.demand) (fault 19 Charging index Demand)
+demand_faults index tank = unless (is_range (pos 0) (pos MOST_VOLUME) tank.demand) (fault 19 Charging index Demand)
 
 -- numbers of charges that are no range
 abbrev pub charge_count_faults : ℕ → UnitPart → List PlantFault
-charge_count_faults index part = unless (is_range (pos 0) (pos 40) part.charges) (fault 19 Units index Charges)
+charge_count_faults index part = unless (is_range (pos 0) (pos MOST_SLOTS) part.charges) (fault 19 Units index Charges)
 
 -- one kind of fault after another
 unfoldable pub level_and_demand_faults : Parts → List PlantFault
@@ -243,15 +257,17 @@ limit_count properties _ = 0
 
 -- so many ranges of a property
 abbrev pub are_limits : ℕ → List Pair → Bool
-are_limits count limits = length limits == count && list_all (is_range (pos 0) (pos 1000000)) limits
+are_limits count limits = length limits == count && list_all (is_range (pos 0) (pos MOST_PROPERTY)) limits
 
 -- a rate, a volume, a window or limits out of range
 abbrev pub range_faults : Parts → ℕ → OperationPart → List PlantFault
 range_faults parts index operation =
-    unless (is_range (pos 0) (pos 10000000) operation.rate) (fault 22 Operations index Rate)
-    ++ unless (is_range (pos 1) (pos 10000000) operation.volume) (fault 22 Operations index Volume)
-    ++ unless (is_window parts.horizon (arrival_named parts operation.from) operation.window) (fault 22 Operations index Window)
-    ++ unless (are_limits (limit_count (length parts.properties) (kind_named parts operation.from)) operation.limits) (fault 22 Operations index Limits)
+    unless (is_range (pos 0) (pos MOST_RATE) operation.rate) (fault 22 Operations index Rate)
+    ++ unless (is_range (pos 1) (pos MOST_VOLUME) operation.volume) (fault 22 Operations index Volume)
+    ++ unless (is_window parts.horizon (arrival_named parts operation.from) operation.window)
+    (fault 22 Operations index Window)
+    ++ unless (are_limits (limit_count (length parts.properties) (kind_named parts operation.from)) operation.limits)
+    (fault 22 Operations index Limits)
 
 -- one kind of fault after another
 unfoldable pub operation_faults : Parts → List PlantFault
@@ -259,6 +275,21 @@ operation_faults parts =
     each_from (unknown_place_faults parts) 1 parts.operations
     ++ each_from (route_faults parts) 1 parts.operations
     ++ each_from (range_faults parts) 1 parts.operations
+
+-- ---- 23 and 24: the berths of vessels, and what they pay
+
+-- a berth out of range
+abbrev pub berth_faults : ℕ → VesselPart → List PlantFault
+berth_faults index vessel = unless (is_within (pos 1) (pos MOST_BERTHS) vessel.berth) (fault 23 Vessels index Berth)
+
+-- a demurrage out of range
+abbrev pub demurrage_faults : ℕ → VesselPart → List PlantFault
+demurrage_faults index vessel =
+    unless (is_within (pos 0) (pos MOST_DEMURRAGE) vessel.demurrage) (fault 24 Vessels index Demurrage)
+
+-- one kind of fault after the other
+unfoldable pub berthing_faults : Parts → List PlantFault
+berthing_faults parts = each_from berth_faults 1 parts.vessels ++ each_from demurrage_faults 1 parts.vessels
 
 -- ---- all of them
 
@@ -272,6 +303,7 @@ entry_faults parts =
     ++ all_arrival_faults parts
     ++ level_and_demand_faults parts
     ++ operation_faults parts
+    ++ berthing_faults parts
 
 -- every fault that stands in the parts
 unfoldable pub faults_of : Parts → List PlantFault

@@ -60,34 +60,60 @@ margin_of parts c = slice_index_or (map (λ (crude : CrudePart). crude.margin) p
 
 -- property k of crude c
 unfoldable pub property_of : Parts → ℕ → ℕ → ℕ
-property_of parts c k = natural (slice_index_or (slice_index_or (map (λ (crude : CrudePart). crude.properties) parts.crudes) c []) k (pos 0))
+property_of parts c k =
+    let properties = slice_index_or (map (λ (crude : CrudePart). crude.properties) parts.crudes) c [] in
+    natural (slice_index_or properties k (pos 0))
 
 -- ---- places: the vessels, then the storage tanks, the charging tanks and the units
 
--- of a vessel, its arrival
+-- a place of the kind, where nothing is said of it
+abbrev pub bare_place : PlaceKind → PlaceInfo
+bare_place kind = record {
+  kind = kind;
+  arrival = 0;
+  min = 0;
+  max = 0;
+  demand = (0, 0);
+  continuous = false;
+  charges = (0, 0);
+  berth = 0;
+  demurrage = 0;
+}
+
+-- of a vessel, its arrival, its berth and what it pays for a minute
 abbrev pub vessel_info : VesselPart → PlaceInfo
-vessel_info vessel = record { kind = Vessel; arrival = natural vessel.arrival; min = 0; max = 0; demand = (0, 0); continuous = false; charges = (0, 0) }
+vessel_info vessel =
+    record (bare_place Vessel) {
+      arrival = natural vessel.arrival;
+      berth = natural vessel.berth;
+      demurrage = natural vessel.demurrage;
+    }
 
 -- of a storage tank, its levels; its demand is not read
 abbrev pub storage_info : TankPart → PlaceInfo
-storage_info tank = record { kind = Storage; arrival = 0; min = natural tank.min; max = natural tank.max; demand = (0, 0); continuous = false; charges = (0, 0) }
+storage_info tank = record (bare_place Storage) { min = natural tank.min; max = natural tank.max }
 
 -- of a charging tank, its levels and its demand
 abbrev pub charging_info : TankPart → PlaceInfo
-charging_info tank = record { kind = Charging; arrival = 0; min = natural tank.min; max = natural tank.max; demand = range_of tank.demand; continuous = false; charges = (0, 0) }
+charging_info tank =
+    record (bare_place Charging) { min = natural tank.min; max = natural tank.max; demand = range_of tank.demand }
 
 -- of a unit, whether it is continuous and how many charges it takes
 abbrev pub unit_info : UnitPart → PlaceInfo
-unit_info part = record { kind = DistillationUnit; arrival = 0; min = 0; max = 0; demand = (0, 0); continuous = part.continuous; charges = range_of part.charges }
+unit_info part = record (bare_place DistillationUnit) { continuous = part.continuous; charges = range_of part.charges }
 
 -- the place past the last
 abbrev pub no_place : PlaceInfo
-no_place = record { kind = Vessel; arrival = 0; min = 0; max = 0; demand = (0, 0); continuous = false; charges = (0, 0) }
+no_place = bare_place Vessel
 
 -- what is said of each place: of the vessels, the storage tanks, the charging tanks, the units
-abbrev pub per_place : {X : Type 0} → (VesselPart → X) → (TankPart → X) → (TankPart → X) → (UnitPart → X) → Parts → List X
+abbrev pub per_place : {X : Type 0} → (VesselPart → X) → (TankPart → X) → (TankPart → X) → (UnitPart → X)
+    → Parts → List X
 per_place of_vessel of_storage of_charging of_unit parts =
-    map of_vessel parts.vessels ++ map of_storage parts.storage ++ map of_charging parts.charging ++ map of_unit parts.units
+    map of_vessel parts.vessels
+    ++ map of_storage parts.storage
+    ++ map of_charging parts.charging
+    ++ map of_unit parts.units
 
 -- what is said of each place, by number
 unfoldable pub places_of : Parts → List PlaceInfo
@@ -95,11 +121,13 @@ places_of parts = per_place vessel_info storage_info charging_info unit_info par
 
 -- the names of the places, by number
 unfoldable pub place_names_of : Parts → List (List ℕ)
-place_names_of parts = per_place (λ vessel. vessel.name) (λ tank. tank.name) (λ tank. tank.name) (λ part. part.name) parts
+place_names_of parts =
+    per_place (λ vessel. vessel.name) (λ tank. tank.name) (λ tank. tank.name) (λ part. part.name) parts
 
 -- how much of each crude the place is given; a unit has none
 unfoldable pub place_amounts_of : Parts → List (List ℤ)
-place_amounts_of parts = per_place (λ vessel. vessel.amounts) (λ tank. tank.amounts) (λ tank. tank.amounts) (λ part. []) parts
+place_amounts_of parts =
+    per_place (λ vessel. vessel.amounts) (λ tank. tank.amounts) (λ tank. tank.amounts) (λ part. []) parts
 
 -- how many places there are
 unfoldable pub place_count_of : Parts → ℕ
@@ -131,11 +159,13 @@ place_by_name_of parts name = position_of name (place_names_of parts)
 
 -- the kind of the place with the name, where there is one
 unfoldable pub kind_named : Parts → List ℕ → Option PlaceKind
-kind_named parts name = slice_get (map (λ (place : PlaceInfo). place.kind) (places_of parts)) (place_by_name_of parts name)
+kind_named parts name =
+    slice_get (map (λ (place : PlaceInfo). place.kind) (places_of parts)) (place_by_name_of parts name)
 
 -- from when on the place with the name has crude to give: a vessel's arrival, else 0
 unfoldable pub arrival_named : Parts → List ℕ → ℤ
-arrival_named parts name = slice_index_or (map (λ (vessel : VesselPart). vessel.arrival) parts.vessels) (place_by_name_of parts name) (pos 0)
+arrival_named parts name =
+    slice_index_or (map (λ (vessel : VesselPart). vessel.arrival) parts.vessels) (place_by_name_of parts name) (pos 0)
 
 -- ---- operations
 
@@ -150,7 +180,14 @@ kind_from DistillationUnit = Charge
 unfoldable pub resolved : Parts → OperationPart → Op
 resolved parts operation =
     let source = place_by_name_of parts operation.from in
-    record { from = source; to = place_by_name_of parts operation.to; kind = kind_from (place_of parts source).kind; rate = range_of operation.rate; volume = range_of operation.volume; window = range_of operation.window }
+    record {
+      from = source;
+      to = place_by_name_of parts operation.to;
+      kind = kind_from (place_of parts source).kind;
+      rate = range_of operation.rate;
+      volume = range_of operation.volume;
+      window = range_of operation.window;
+    }
 
 -- the operation past the last
 abbrev pub no_op : Op
@@ -174,7 +211,9 @@ op_name_of parts v = slice_index_or (op_names_of parts) v []
 
 -- what property k of what the charge draws may be
 unfoldable pub limit_of : Parts → ℕ → ℕ → ℕ × ℕ
-limit_of parts v k = range_of (slice_index_or (slice_index_or (map (λ (operation : OperationPart). operation.limits) parts.operations) v []) k (record { lo = pos 0; hi = pos 0 }))
+limit_of parts v k =
+    let limits = slice_index_or (map (λ (operation : OperationPart). operation.limits) parts.operations) v [] in
+    range_of (slice_index_or limits k (record { lo = pos 0; hi = pos 0 }))
 
 -- the greatest upper volume of any operation, or 0 where there is none
 abbrev pub greatest_of : List Op → ℕ

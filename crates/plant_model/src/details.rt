@@ -6,7 +6,8 @@ pub enum PlaceKind {
     Unit,
 }
 
-/// What a plant says of a vessel, a tank or a unit. What its kind has not is 0 or false.
+/// What a plant says of a vessel, a tank or a unit. What its kind has not is 0 or false. Berths are numbered
+/// from 1; the demurrage is what a vessel pays for a minute.
 #[derive(Clone, Copy, Debug, PartialEq, Eq)]
 pub struct PlaceInfo {
     pub kind: PlaceKind,
@@ -16,6 +17,8 @@ pub struct PlaceInfo {
     pub demand: (u32, u32),
     pub continuous: bool,
     pub charges: (u32, u32),
+    pub berth: u32,
+    pub demurrage: u32,
 }
 
 #[derive(Clone, Copy, Debug, PartialEq, Eq)]

@@ -2,10 +2,11 @@ ghost use Rattle.std.specs.Prelude.{◌≡◌};
 ghost use Rattle.std.specs.Result.{result_err};
 ghost use Rattle.item_lists.specs.Faults.{first_of};
 ghost use Rattle.plant_model.specs.Faults.{entry_faults, faults_of};
-ghost use Rattle.plant_model.specs.SoundParts.{FewEntries};
+ghost use Rattle.plant_model.specs.inside.SoundParts.{FewEntries};
 
 mod amounts;
 mod arrivals;
+mod berths;
 mod counts;
 mod crudes;
 mod each;
@@ -15,6 +16,7 @@ mod operations;
 
 use crate::faults::amounts::amounts;
 use crate::faults::arrivals::arrivals;
+use crate::faults::berths::berths_and_demurrages;
 use crate::faults::counts::counts;
 use crate::faults::crudes::crudes;
 use crate::faults::levels::levels_and_demands;
@@ -35,7 +37,8 @@ fn entries(parts: &Parts) -> Result<(), PlantFault>
     amounts(parts)?;
     arrivals(parts)?;
     levels_and_demands(parts)?;
-    operations(parts)
+    operations(parts)?;
+    berths_and_demurrages(parts)
 }
 
 /// The first fault of the parts. Sections that are too long are refused before any is gone through.

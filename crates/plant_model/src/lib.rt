@@ -2,7 +2,7 @@
 //! operations that move crude from one to the next.
 //!
 //! [`Parts`] are a plant as it is given, sound or not. [`Plant::new`] is the test: it refuses parts with
-//! the first of the 22 faults that stand in them, exactly where one stands, and tells its place. What it
+//! the first of the 24 faults that stand in them, exactly where one stands, and tells its place. What it
 //! makes is a [`Plant`], which contracts see as its parts and in which nothing is wrong. To the crates
 //! above, this crate promises that the readers of a plant give its parts, places and operations by
 //! number, and each within its range; that [`Plant::refused_at_once`] says exactly which two operations

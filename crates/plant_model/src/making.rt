@@ -1,6 +1,6 @@
 ghost use Rattle.std.specs.Prelude.{◌≡◌, ◌<◌, map, IfOk};
 ghost use Rattle.plant_model.specs.Parts.{kind_from, ops_of, place_count_of, place_of, resolved, seen_parts, without_demand};
-ghost use Rattle.plant_model.specs.SoundParts.{FewEntries, SoundOperation, SoundParts};
+ghost use Rattle.plant_model.specs.inside.SoundParts.{FewEntries, SoundOperation, SoundParts};
 
 use crate::details::{Op, OpKind, PlaceKind};
 use crate::named::place_by_name;

@@ -1,6 +1,6 @@
 ghost use Rattle.std.specs.Prelude.{◌≡◌, ◌+◌, ◌<◌, ◌≤◌, ◌^◌, ◌==◌, if◌then◌else◌, ℕ, List, map, length};
 ghost use Rattle.plant_model.specs.Parts.{position_of, place_by_name_of};
-ghost use Rattle.plant_model.specs.SoundParts.{FewEntries};
+ghost use Rattle.plant_model.specs.inside.SoundParts.{FewEntries};
 
 use crate::parts::{CrudePart, Name, OperationPart, Parts, TankPart, UnitPart, VesselPart};
 

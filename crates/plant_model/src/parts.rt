@@ -38,12 +38,15 @@ pub struct CrudePart {
     pub properties: Numbers,
 }
 
-/// A vessel: the minute of its arrival, and the volume units of each crude that it brings.
+/// A vessel: the minute of its arrival, the volume units of each crude that it brings, the number of the
+/// berth that it comes to, and what it pays for each minute from its arrival to the end of its unloading.
 #[derive(Debug, Drop)]
 pub struct VesselPart {
     pub name: Name,
     pub arrival: i64,
     pub amounts: Numbers,
+    pub berth: i64,
+    pub demurrage: i64,
 }
 
 /// A storage or charging tank: the least and the greatest level, the volume units of each crude that

@@ -23,6 +23,8 @@ pub enum Key {
     Properties,
     Arrival,
     Amounts,
+    Berth,
+    Demurrage,
     Min,
     Max,
     Demand,

@@ -1,7 +1,8 @@
 ghost use Rattle.std.specs.Prelude.{◌≡◌, ◌≤◌, ◌<◌, ◌^◌, pos, MatchOption};
+ghost use Rattle.limits.specs.declared.TheConstants.{MOST_BERTHS, MOST_DEMURRAGE, MOST_HORIZON, MOST_SLOTS, MOST_VOLUME};
 ghost use Rattle.plant_model.specs.Parts.{place_count_of, vessel_info, storage_info, charging_info, unit_info};
-ghost use Rattle.plant_model.specs.PlaceParts.{IsPartAt, kind_of_part};
-ghost use Rattle.plant_model.specs.SoundParts.{IsWithin, IsPairWithin, levels_of};
+ghost use Rattle.plant_model.specs.inside.PlaceParts.{IsPartAt, kind_of_part};
+ghost use Rattle.plant_model.specs.inside.SoundParts.{IsWithin, IsPairWithin, levels_of};
 
 use crate::details::{PlaceInfo, PlaceKind};
 use crate::numbers::{unsigned, unsigned_range};
@@ -65,21 +66,27 @@ const NOTHING: PlaceInfo = PlaceInfo {
     demand: (0, 0),
     continuous: false,
     charges: (0, 0),
+    berth: 0,
+    demurrage: 0,
 };
 
 pub(crate) fn vessel_info(vessel: &VesselPart) -> PlaceInfo
-    requires { IsWithin (pos 0) (pos 100000) vessel.now.arrival }
+    requires arrival { IsWithin (pos 0) (pos MOST_HORIZON) vessel.now.arrival }
+    requires berth { IsWithin (pos 1) (pos MOST_BERTHS) vessel.now.berth }
+    requires demurrage { IsWithin (pos 0) (pos MOST_DEMURRAGE) vessel.now.demurrage }
     ensures { result ≡ vessel_info vessel.now }
 {
     PlaceInfo {
         kind: PlaceKind::Vessel,
         arrival: unsigned(vessel.arrival),
+        berth: unsigned(vessel.berth),
+        demurrage: unsigned(vessel.demurrage),
         ..NOTHING
     }
 }
 
 pub(crate) fn storage_info(tank: &TankPart) -> PlaceInfo
-    requires { IsPairWithin (pos 0) (pos 10000000) (levels_of tank.now) }
+    requires { IsPairWithin (pos 0) (pos MOST_VOLUME) (levels_of tank.now) }
     ensures { result ≡ storage_info tank.now }
 {
     PlaceInfo {
@@ -91,8 +98,8 @@ pub(crate) fn storage_info(tank: &TankPart) -> PlaceInfo
 }
 
 pub(crate) fn charging_info(tank: &TankPart) -> PlaceInfo
-    requires levels { IsPairWithin (pos 0) (pos 10000000) (levels_of tank.now) }
-    requires demand { IsPairWithin (pos 0) (pos 10000000) tank.now.demand }
+    requires levels { IsPairWithin (pos 0) (pos MOST_VOLUME) (levels_of tank.now) }
+    requires demand { IsPairWithin (pos 0) (pos MOST_VOLUME) tank.now.demand }
     ensures { result ≡ charging_info tank.now }
 {
     PlaceInfo {
@@ -105,7 +112,7 @@ pub(crate) fn charging_info(tank: &TankPart) -> PlaceInfo
 }
 
 pub(crate) fn unit_info(part: &UnitPart) -> PlaceInfo
-    requires { IsPairWithin (pos 0) (pos 40) part.now.charges }
+    requires { IsPairWithin (pos 0) (pos MOST_SLOTS) part.now.charges }
     ensures { result ≡ unit_info part.now }
 {
     PlaceInfo {

@@ -1,4 +1,5 @@
 ghost use Rattle.std.specs.Prelude.{◌≡◌, ◌≢◌, ◌↔◌, IfOk, MatchResult, ◌<◌, ◌≤◌, ℕ, ℤ, pos, neg_ℤ, ◌≤ℤ◌, map, length, slice_index_or};
+ghost use Rattle.limits.specs.declared.TheConstants.{MOST_CRUDES, MOST_HORIZON, MOST_MARGIN, MOST_OPERATIONS, MOST_PLACES, MOST_PROPERTIES, MOST_PROPERTY, MOST_VOLUME};
 ghost use Rattle.item_lists.specs.Faults.{first_of};
 ghost use Rattle.plant_model.specs.declared.place.PlantFault.{PlantFault};
 ghost use Rattle.plant_model.specs.declared.place.PlantNewFault.TheVariants.{Fault};
@@ -54,16 +55,17 @@ fn make(alloc: Global, parts: Parts) -> Result<Plant, PlantNewFault>
 
 impl Plant {
     ghost use Rattle.plant_model.specs.Parts.{horizon_of, crude_count_of, property_count_of, place_count_of, op_count_of, margin_of, property_of, place_of, initial_of, initial_amounts_of, natural, op_of, ops_of, limit_of, op_name_of, op_by_name_of, greatest_volume_of, place_name_of, crude_name_of, property_name_of};
-    ghost use Rattle.plant_model.specs.PlaceParts.{info_of_part, name_of_part, amounts_of_part};
+    ghost use Rattle.plant_model.specs.inside.PlaceParts.{info_of_part, name_of_part, amounts_of_part};
     ghost use Rattle.plant_model.specs.Sound.{HoldsCrude, IsRange, SoundOp, SoundPlace, SoundPlant};
-    ghost use Rattle.plant_model.specs.SoundParts.{SoundCrude, SoundOperation, SoundPart, SoundParts};
+    ghost use Rattle.plant_model.specs.inside.SoundParts.{SoundCrude, SoundOperation, SoundPart, SoundParts};
 
     /// Refuses with the first fault of the parts. Want of memory is answered of parts without a fault
     /// alone.
     pub fn new(alloc: Global, parts: Parts) -> Result<Plant, PlantNewFault>
         ensures plant { IfOk result (λ plant. plant ≡ seen_parts parts) }
         ensures refusal { MatchResult result (λ _. IsSound parts) (IsRefusal parts) }
-        ensures exactly { (fault : PlantFault) → (result ≡ Err (PlantNewFault.Fault fault)) ↔ (first_of (faults_of parts) ≡ Some fault) }
+        ensures exactly { (fault : PlantFault)
+            → (result ≡ Err (PlantNewFault.Fault fault)) ↔ (first_of (faults_of parts) ≡ Some fault) }
     {
         make(alloc, parts)
     }
@@ -99,7 +101,7 @@ impl Plant {
     pub fn horizon(&self) -> u32
         ensures value { result ≡ horizon_of self.now }
         ensures some { 1 ≤ result }
-        ensures most { result ≤ 100000 }
+        ensures most { result ≤ MOST_HORIZON }
     {
         unsigned(self.parts().horizon)
     }
@@ -108,7 +110,7 @@ impl Plant {
     pub fn crude_count(&self) -> u8
         ensures value { result ≡ crude_count_of self.now }
         ensures some { 1 ≤ result }
-        ensures most { result ≤ 12 }
+        ensures most { result ≤ MOST_CRUDES }
     {
         self.parts().crudes.as_slice().len() as u8
     }
@@ -116,7 +118,7 @@ impl Plant {
     #[tactic(auto, unfolding(crate::specs::Parts::property_count_of))]
     pub fn property_count(&self) -> u8
         ensures value { result ≡ property_count_of self.now }
-        ensures most { result ≤ 6 }
+        ensures most { result ≤ MOST_PROPERTIES }
     {
         self.parts().properties.as_slice().len() as u8
     }
@@ -124,7 +126,7 @@ impl Plant {
     #[tactic(auto, unfolding(crate::specs::Parts::op_count_of))]
     pub fn op_count(&self) -> u8
         ensures value { result ≡ op_count_of self.now }
-        ensures most { result ≤ 48 }
+        ensures most { result ≤ MOST_OPERATIONS }
     {
         self.parts().operations.as_slice().len() as u8
     }
@@ -134,8 +136,8 @@ impl Plant {
     pub fn margin(&self, c: u8) -> i64
         requires { c < crude_count_of self.now }
         ensures value { result ≡ margin_of self.now c }
-        ensures least { neg_ℤ (pos 1000000) ≤ℤ result }
-        ensures most { result ≤ℤ pos 1000000 }
+        ensures least { neg_ℤ (pos MOST_MARGIN) ≤ℤ result }
+        ensures most { result ≤ℤ pos MOST_MARGIN }
     {
         self.crude(c).margin
     }
@@ -146,7 +148,7 @@ impl Plant {
         requires crude { c < crude_count_of self.now }
         requires property { k < property_count_of self.now }
         ensures value { result ≡ property_of self.now c k }
-        ensures most { result ≤ 1000000 }
+        ensures most { result ≤ MOST_PROPERTY }
     {
         unsigned(self.crude(c).properties.as_slice()[k as usize])
     }
@@ -182,7 +184,7 @@ impl Plant {
         requires charge { (op_of self.now v).kind ≡ Charge }
         requires property { k < property_count_of self.now }
         ensures value { result ≡ limit_of self.now v k }
-        ensures sound { IsRange 0 1000000 result }
+        ensures sound { IsRange 0 MOST_PROPERTY result }
     {
         unsigned_range(self.operation(v).limits.as_slice()[k as usize])
     }
@@ -202,7 +204,7 @@ impl Plant {
     #[tactic(auto, unfolding(crate::specs::Parts::place_count_of))]
     pub fn place_count(&self) -> u8
         ensures value { result ≡ place_count_of self.now }
-        ensures most { result ≤ 42 }
+        ensures most { result ≤ MOST_PLACES }
     {
         let parts = self.parts();
         let tanks = parts.storage.as_slice().len() + parts.charging.as_slice().len();
@@ -242,7 +244,7 @@ impl Plant {
         requires holds_crude { HoldsCrude (place_of self.now p).kind }
         requires crude { c < crude_count_of self.now }
         ensures value { result ≡ initial_of self.now p c }
-        ensures most { result ≤ 10000000 }
+        ensures most { result ≤ MOST_VOLUME }
     {
         match self.part(p) {
             PlacePart::Vessel(vessel) => unsigned(vessel.amounts.as_slice()[c as usize]),
@@ -291,7 +293,7 @@ impl Plant {
     #[tactic(auto, unfolding(crate::specs::Parts::greatest_volume_of))]
     pub fn greatest_volume(&self) -> u32
         ensures value { result ≡ greatest_volume_of self.now }
-        ensures most { result ≤ 10000000 }
+        ensures most { result ≤ MOST_VOLUME }
     {
         greatest_of(self.ops())
     }

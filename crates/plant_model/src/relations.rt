@@ -1,14 +1,8 @@
 ghost use Rattle.std.specs.Prelude.{◌≡◌, ◌<◌, IsTrue, IsFalse};
-ghost use Rattle.plant_model.specs.Relations.{both_unload, one_feeds_other, both_charge_from_one_tank, both_charge_one_unit};
+ghost use Rattle.plant_model.specs.Relations.{share_berth, one_feeds_other, both_charge_from_one_tank, both_charge_one_unit};
 
 use crate::details::{Op, OpKind};
 use crate::plant::Plant;
-
-fn both_unload(a: Op, b: Op) -> bool
-    ensures { result ≡ both_unload a b }
-{
-    a.kind == OpKind::Unload && b.kind == OpKind::Unload
-}
 
 fn one_feeds_other(a: Op, b: Op) -> bool
     ensures { result ≡ one_feeds_other a b }
@@ -29,8 +23,19 @@ fn both_charge_one_unit(a: Op, b: Op) -> bool
 }
 
 impl Plant {
-    ghost use Rattle.plant_model.specs.Parts.{op_count_of};
+    ghost use Rattle.plant_model.specs.Parts.{op_count_of, place_count_of};
     ghost use Rattle.plant_model.specs.Relations.{refused_at_once_of, ordered_of, AreApart};
+
+    /// Whether both unload a vessel at the same berth.
+    fn share_berth(&self, a: Op, b: Op) -> bool
+        requires first { a.from < place_count_of self.now }
+        requires second { b.from < place_count_of self.now }
+        ensures { result ≡ share_berth self.now a b }
+    {
+        a.kind == OpKind::Unload
+            && b.kind == OpKind::Unload
+            && self.place(a.from).berth == self.place(b.from).berth
+    }
 
     /// Whether the two may not run at one moment.
     #[tactic(auto, unfolding(crate::specs::Relations::refused_at_once_of))]
@@ -44,7 +49,7 @@ impl Plant {
         let a = self.op(v);
         let b = self.op(w);
         v == w
-            || both_unload(a, b)
+            || self.share_berth(a, b)
             || one_feeds_other(a, b)
             || both_charge_from_one_tank(a, b)
             || both_charge_one_unit(a, b)

@@ -1,3 +1,4 @@
-mod plants;
 mod readers;
 mod refusals;
+mod relations;
+mod sample;

@@ -32,13 +32,15 @@ after-one front x None = refl
 after-one front x (Some xs) = ap Some (simp append_assoc)
 
 -- one item more is of the kind
-pub each_in-more : {X : Type 0} (kind : Data → Option X) (values : List Value) (i : ℕ) (value : Value) (front : List X) (x : X) → i < length values → value ≡ get_or values i value → kind (view value) ≡ Some x
+pub each_in-more : {X : Type 0} (kind : Data → Option X) (values : List Value) (i : ℕ) (value : Value) (front : List X) (x : X) → i < length values
+    → value ≡ get_or values i value → kind (view value) ≡ Some x
     → after front (each_in kind (items_view (drop i values))) ≡ after (front ++ x ∷ []) (each_in kind (items_view (drop (i + 1) values)))
 each_in-more kind values i value front x within is found =
     rw (add-one, drop-cons values i value within, ← is, found) (after-one front x (each_in kind (items_view (drop (suc i) values))))
 
 -- one item is not of the kind
-pub each_in-none : {X : Type 0} (kind : Data → Option X) (values : List Value) (i : ℕ) (value : Value) (front : List X) → i < length values → value ≡ get_or values i value → kind (view value) ≡ None
+pub each_in-none : {X : Type 0} (kind : Data → Option X) (values : List Value) (i : ℕ) (value : Value) (front : List X) → i < length values
+    → value ≡ get_or values i value → kind (view value) ≡ None
     → after front (each_in kind (items_view (drop i values))) ≡ None
 each_in-none kind values i value front within is missing =
     rw (drop-cons values i value within, ← is, missing) refl
@@ -49,7 +51,8 @@ pub each_in-done : {X : Type 0} (kind : Data → Option X) (values : List Value)
 each_in-done kind values i front past = rw (drop_all i values past) (ap Some (append-nil front))
 
 -- the members of a value have these keys where the names of its map have
-pub keyed_by-keys : (keys : List (List ℕ)) (members : List (String Global × Value)) → list_all (λ name. list_any (bytes_eq (string_bytes name)) keys) (map (λ m. m.0) members) ≡ keyed_by keys (members_view members)
+pub keyed_by-keys : (keys : List (List ℕ)) (members : List (String Global × Value))
+    → list_all (λ name. list_any (bytes_eq (string_bytes name)) keys) (map (λ m. m.0) members) ≡ keyed_by keys (members_view members)
 keyed_by-keys keys [] = refl
 keyed_by-keys keys (m ∷ members) = ap (λ b. list_any (bytes_eq (string_bytes m.0)) keys && b) (keyed_by-keys keys members)
 

@@ -21,7 +21,8 @@ whole_numbers value = option_and_then (each_in whole_number) (as_array value)
 abbrev pub pair_in : Items → Option Pair
 pair_in no_items = None
 pair_in (item lo no_items) = None
-pair_in (item lo (item hi no_items)) = option_and_then (λ low. option_map (λ high. record { lo = low; hi = high }) (whole_number hi)) (whole_number lo)
+pair_in (item lo (item hi no_items)) =
+    option_and_then (λ low. option_map (λ high. record { lo = low; hi = high }) (whole_number hi)) (whole_number lo)
 pair_in (item lo (item hi (item more others))) = None
 
 -- a list of exactly two whole numbers

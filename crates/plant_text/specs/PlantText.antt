@@ -28,7 +28,8 @@ count_of (item value others) = suc (count_of others)
 
 -- a section that has so many entries, where it is there and is a list
 abbrev pub has_count : ℕ → Section → Data → Bool
-has_count n s whole = option_map_or (λ items. count_of items == n) (option_and_then as_array (get (section_name s) whole)) true
+has_count n s whole =
+    option_map_or (λ items. count_of items == n) (option_and_then as_array (get (section_name s) whole)) true
 
 -- the sections that are not built yet for the plant: so far a plant has no properties, vessels and storage
 -- tanks, one charging tank and one unit

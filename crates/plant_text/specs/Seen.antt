@@ -6,6 +6,7 @@ use Rattle.plant_text.specs.Walk.{Sections}
 -- the sections as the walk finds them
 abbrev pub lists_seen : SectionLists → Sections
 lists_seen lists = record {
+  format = lists.format;
   horizon = lists.horizon;
   properties = items_view lists.properties.now;
   crudes = items_view lists.crudes.now;

@@ -16,6 +16,8 @@ use Rattle.plant_model.specs.declared.parts.VesselPart.{VesselPart}
 use Rattle.plant_model.specs.declared.parts.TankPart.{TankPart}
 use Rattle.plant_model.specs.declared.parts.UnitPart.{UnitPart}
 use Rattle.plant_model.specs.declared.parts.OperationPart.{OperationPart}
+use Rattle.plant_text.specs.declared.kinds.PlantFormat.{PlantFormat}
+use Rattle.plant_text.specs.declared.kinds.PlantFormat.TheVariants.{One, Two, Three}
 use Rattle.plant_text.specs.declared.fault.PlantTextFault.{PlantTextFault}
 use Rattle.plant_text.specs.declared.fault.PlantTextFault.TheVariants.{Shape}
 use Rattle.plant_text.specs.Names.{section_name, key_name}
@@ -71,15 +73,35 @@ crude_at index entry = do
   _ ← closed section.Crudes index (codes "name" ∷ codes "margin" ∷ codes "properties" ∷ []) entry
   Ok (record { name = name; margin = margin; properties = properties })
 
--- a vessel, with its arrival and its cargo
-unfoldable pub vessel_at : ℕ → Data → Result VesselPart PlantTextFault
-vessel_at index entry = do
+-- the keys of a vessel
+abbrev pub vessel_keys : PlantFormat → List (List ℕ)
+vessel_keys One = codes "name" ∷ codes "arrival" ∷ codes "amounts" ∷ []
+vessel_keys Two = codes "name" ∷ codes "arrival" ∷ codes "amounts" ∷ codes "berth" ∷ []
+vessel_keys Three = codes "name" ∷ codes "arrival" ∷ codes "amounts" ∷ codes "berth" ∷ codes "demurrage" ∷ []
+
+-- the berth of a vessel, which format 1 does not tell: it is 1
+abbrev pub berth_at : PlantFormat → ℕ → Data → Result ℤ PlantTextFault
+berth_at One index entry = Ok (pos 1)
+berth_at Two index entry = field whole_number section.Vessels index key.Berth entry
+berth_at Three index entry = field whole_number section.Vessels index key.Berth entry
+
+-- the demurrage of a vessel, which format 3 alone tells: else it is 0
+abbrev pub demurrage_at : PlantFormat → ℕ → Data → Result ℤ PlantTextFault
+demurrage_at One index entry = Ok (pos 0)
+demurrage_at Two index entry = Ok (pos 0)
+demurrage_at Three index entry = field whole_number section.Vessels index key.Demurrage entry
+
+-- a vessel, with its arrival and its cargo, and with what the format tells of its berth
+unfoldable pub vessel_at : PlantFormat → ℕ → Data → Result VesselPart PlantTextFault
+vessel_at format index entry = do
   _ ← opened section.Vessels index entry
   name ← field as_str section.Vessels index key.Name entry
   arrival ← field whole_number section.Vessels index key.Arrival entry
   amounts ← field whole_numbers section.Vessels index key.Amounts entry
-  _ ← closed section.Vessels index (codes "name" ∷ codes "arrival" ∷ codes "amounts" ∷ []) entry
-  Ok (record { name = name; arrival = arrival; amounts = amounts })
+  berth ← berth_at format index entry
+  demurrage ← demurrage_at format index entry
+  _ ← closed section.Vessels index (vessel_keys format) entry
+  Ok (record { name = name; arrival = arrival; amounts = amounts; berth = berth; demurrage = demurrage })
 
 -- a storage tank owes nothing: its demand is 0, 0
 unfoldable pub storage_at : ℕ → Data → Result TankPart PlantTextFault
@@ -92,6 +114,10 @@ storage_at index entry = do
   _ ← closed section.Storage index (codes "name" ∷ codes "min" ∷ codes "max" ∷ codes "amounts" ∷ []) entry
   Ok (record { name = name; min = min; max = max; amounts = amounts; demand = record { lo = pos 0; hi = pos 0 } })
 
+-- the keys of a charging tank
+abbrev pub charging_keys : List (List ℕ)
+charging_keys = codes "name" ∷ codes "min" ∷ codes "max" ∷ codes "amounts" ∷ codes "demand" ∷ []
+
 -- a charging tank, with its levels, what it holds at first, and its demand
 unfoldable pub charging_at : ℕ → Data → Result TankPart PlantTextFault
 charging_at index entry = do
@@ -101,7 +127,7 @@ charging_at index entry = do
   max ← field whole_number section.Charging index key.Max entry
   amounts ← field whole_numbers section.Charging index key.Amounts entry
   demand ← field pair section.Charging index key.Demand entry
-  _ ← closed section.Charging index (codes "name" ∷ codes "min" ∷ codes "max" ∷ codes "amounts" ∷ codes "demand" ∷ []) entry
+  _ ← closed section.Charging index charging_keys entry
   Ok (record { name = name; min = min; max = max; amounts = amounts; demand = demand })
 
 -- a unit, and how often it is charged
@@ -114,6 +140,11 @@ unit_at index entry = do
   _ ← closed section.Units index (codes "name" ∷ codes "continuous" ∷ codes "charges" ∷ []) entry
   Ok (record { name = name; continuous = continuous; charges = charges })
 
+-- the keys of an operation
+abbrev pub operation_keys : List (List ℕ)
+operation_keys =
+    codes "name" ∷ codes "from" ∷ codes "to" ∷ codes "rate" ∷ codes "volume" ∷ codes "window" ∷ codes "limits" ∷ []
+
 -- an operation, by the names of its places, with its ranges
 unfoldable pub operation_at : ℕ → Data → Result OperationPart PlantTextFault
 operation_at index entry = do
@@ -125,7 +156,7 @@ operation_at index entry = do
   volume ← field pair section.Operations index key.Volume entry
   window ← field pair section.Operations index key.Window entry
   limits ← field pairs section.Operations index key.Limits entry
-  _ ← closed section.Operations index (codes "name" ∷ codes "from" ∷ codes "to" ∷ codes "rate" ∷ codes "volume" ∷ codes "window" ∷ codes "limits" ∷ []) entry
+  _ ← closed section.Operations index operation_keys entry
   Ok (record { name = name; from = from; to = to; rate = rate; volume = volume; window = window; limits = limits })
 
 -- entries are numbered from 1; past the greatest number that a place can have they keep that number
@@ -133,7 +164,8 @@ abbrev pub next_index : ℕ → ℕ
 next_index index = min (index + 1) (2 ^ 32 - 1)
 
 -- the entries of a section in their order
-unfoldable pub entries_from : {X : Type 0} → (ℕ → Data → Result X PlantTextFault) → ℕ → Items → Result (List X) PlantTextFault
+unfoldable pub entries_from : {X : Type 0} → (ℕ → Data → Result X PlantTextFault) → ℕ → Items
+    → Result (List X) PlantTextFault
 entries_from entry_at index no_items = Ok []
 entries_from entry_at index (item entry others) = do
   first ← entry_at index entry
@@ -144,16 +176,27 @@ entries_from entry_at index (item entry others) = do
 abbrev pub section_of : Section → Data → Result Items PlantTextFault
 section_of s whole = ok_or (option_and_then as_array (get (section_name s) whole)) (misshapen s 0 key.List)
 
--- the format is the number 1
-abbrev pub format_one : Data → Option ℤ
-format_one value = option_and_then (λ z. if int_eq z (pos 1) then Some z else None) (whole_number value)
+-- the format with the number
+abbrev pub format_numbered : ℤ → Option PlantFormat
+format_numbered number =
+    if int_eq number (pos 1) then Some One
+    else if int_eq number (pos 2) then Some Two
+    else if int_eq number (pos 3) then Some Three
+    else None
+
+-- the format is the number 1, 2 or 3
+abbrev pub format_of : Data → Option PlantFormat
+format_of value = option_and_then format_numbered (whole_number value)
 
 -- the keys of a plant
 abbrev pub plant_keys : List (List ℕ)
-plant_keys = codes "format" ∷ codes "horizon" ∷ codes "properties" ∷ codes "crudes" ∷ codes "vessels" ∷ codes "storage" ∷ codes "charging" ∷ codes "units" ∷ codes "operations" ∷ []
+plant_keys =
+    codes "format" ∷ codes "horizon" ∷ codes "properties" ∷ codes "crudes" ∷ codes "vessels" ∷ codes "storage"
+    ∷ codes "charging" ∷ codes "units" ∷ codes "operations" ∷ []
 
--- the lists that a plant has for its sections, and its horizon
+-- the lists that a plant has for its sections, with the format that they are read by, and its horizon
 pub record Sections : Type 0 where
+  pub format : PlantFormat
   pub horizon : ℤ
   pub properties : Items
   pub crudes : Items
@@ -167,7 +210,7 @@ pub record Sections : Type 0 where
 unfoldable pub sections_of : Data → Result Sections PlantTextFault
 sections_of whole = do
   _ ← opened section.Plant 0 whole
-  format ← field format_one section.Plant 0 key.Format whole
+  format ← field format_of section.Plant 0 key.Format whole
   horizon ← field whole_number section.Plant 0 key.Horizon whole
   properties ← section_of section.Properties whole
   crudes ← section_of section.Crudes whole
@@ -177,7 +220,17 @@ sections_of whole = do
   units ← section_of section.Units whole
   operations ← section_of section.Operations whole
   _ ← closed section.Plant 0 plant_keys whole
-  Ok (record { horizon = horizon; properties = properties; crudes = crudes; vessels = vessels; storage = storage; charging = charging; units = units; operations = operations })
+  Ok (record {
+    format = format;
+    horizon = horizon;
+    properties = properties;
+    crudes = crudes;
+    vessels = vessels;
+    storage = storage;
+    charging = charging;
+    units = units;
+    operations = operations;
+  })
 
 -- then its sections in order, each entry by entry
 unfoldable pub parts_of : Data → Result Parts PlantTextFault
@@ -185,9 +238,18 @@ parts_of whole = do
   s ← sections_of whole
   properties ← entries_from property_at 1 s.properties
   crudes ← entries_from crude_at 1 s.crudes
-  vessels ← entries_from vessel_at 1 s.vessels
+  vessels ← entries_from (vessel_at s.format) 1 s.vessels
   storage ← entries_from storage_at 1 s.storage
   charging ← entries_from charging_at 1 s.charging
   units ← entries_from unit_at 1 s.units
   operations ← entries_from operation_at 1 s.operations
-  Ok (record { horizon = s.horizon; properties = properties; crudes = crudes; vessels = vessels; storage = storage; charging = charging; units = units; operations = operations })
+  Ok (record {
+    horizon = s.horizon;
+    properties = properties;
+    crudes = crudes;
+    vessels = vessels;
+    storage = storage;
+    charging = charging;
+    units = units;
+    operations = operations;
+  })

@@ -1,12 +1,14 @@
-ghost use Rattle.std.specs.Prelude.{◌≡◌, ℕ, Result};
+ghost use Rattle.std.specs.Prelude.{◌≡◌, ℕ, Result, map};
 ghost use Rattle.serde_json.specs.Data.{Data};
 ghost use Rattle.serde_json.specs.View.{view, items_view};
+ghost use Rattle.plant_model.specs.declared.place.Section.TheVariants.{Vessels};
 ghost use Rattle.plant_text.specs.declared.fault.PlantTextFault.{PlantTextFault};
-ghost use Rattle.plant_text.specs.Walk.{property_at, crude_at, vessel_at, storage_at, charging_at, unit_at, operation_at, entries_from};
+ghost use Rattle.plant_text.specs.Walk.{property_at, crude_at, vessel_at, storage_at, charging_at, unit_at, operation_at, entries_from, vessel_keys, berth_at, demurrage_at};
 ghost use Rattle.plant_text.specs.Gives.{Gives};
 
 use crate::entry::Entry;
 use crate::fault::PlantTextFault;
+use crate::kinds::PlantFormat;
 use item_lists::Items;
 use plant_model::{
     CrudePart, Key, Name, OperationPart, Pair, Place, Section, TankPart, UnitPart, VesselPart,
@@ -20,23 +22,24 @@ pub(crate) trait EntryReader {
     type Part: Drop;
 
     /// What the entry at an index is.
-    ghost reading: { ℕ → Data → Result Self.Part PlantTextFault };
+    ghost reading: { Self → ℕ → Data → Result Self.Part PlantTextFault };
 
-    fn read(alloc: Global, value: &Value, index: u32) -> Result<Self::Part, PlantTextFault>
-        ensures { Gives (λ part. part) result (reading index (view value.now)) };
+    fn read(&self, alloc: Global, value: &Value, index: u32) -> Result<Self::Part, PlantTextFault>
+        ensures { Gives (λ part. part) result (reading self.now index (view value.now)) };
 }
 
 /// The entries of a section, in order, numbered from 1.
 pub(crate) fn entries<R: EntryReader>(
     alloc: Global,
+    reader: &R,
     values: &[Value],
 ) -> Result<Items<R::Part>, PlantTextFault>
-    ensures { Gives (λ parts. parts) result (entries_from R.reading 1 (items_view values.now)) }
+    ensures { Gives (λ parts. parts) result (entries_from (R.reading reader.now) 1 (items_view values.now)) }
 {
     let mut parts = Vec::with_capacity(alloc, values.len())?;
     let mut index: u32 = 1;
     for value in values {
-        let part = R::read(alloc, value, index)?;
+        let part = reader.read(alloc, value, index)?;
         parts.push(part)?;
         index = index.saturating_add(1);
     }
@@ -44,14 +47,15 @@ pub(crate) fn entries<R: EntryReader>(
 }
 
 /// The properties, each of which is its name.
+#[derive(Drop)]
 pub(crate) struct PropertyEntries;
 
 impl EntryReader for PropertyEntries {
     type Part = Name;
 
-    ghost reading = { property_at };
+    ghost reading = { λ _. property_at };
 
-    fn read(alloc: Global, value: &Value, index: u32) -> Result<Name, PlantTextFault> {
+    fn read(&self, alloc: Global, value: &Value, index: u32) -> Result<Name, PlantTextFault> {
         property(alloc, value, index)
     }
 }
@@ -71,14 +75,15 @@ fn property(alloc: Global, value: &Value, index: u32) -> Result<Name, PlantTextF
 }
 
 /// The crudes.
+#[derive(Drop)]
 pub(crate) struct CrudeEntries;
 
 impl EntryReader for CrudeEntries {
     type Part = CrudePart;
 
-    ghost reading = { crude_at };
+    ghost reading = { λ _. crude_at };
 
-    fn read(alloc: Global, value: &Value, index: u32) -> Result<CrudePart, PlantTextFault> {
+    fn read(&self, alloc: Global, value: &Value, index: u32) -> Result<CrudePart, PlantTextFault> {
         crude(alloc, value, index)
     }
 }
@@ -99,44 +104,90 @@ fn crude(alloc: Global, value: &Value, index: u32) -> Result<CrudePart, PlantTex
     })
 }
 
-/// The vessels.
-pub(crate) struct VesselEntries;
+/// The vessels, of which a format tells more or less.
+#[derive(Drop)]
+pub(crate) struct VesselEntries {
+    pub(crate) format: PlantFormat,
+}
 
 impl EntryReader for VesselEntries {
     type Part = VesselPart;
 
-    ghost reading = { vessel_at };
+    ghost reading = { λ reader. vessel_at reader.format };
 
-    fn read(alloc: Global, value: &Value, index: u32) -> Result<VesselPart, PlantTextFault> {
-        vessel(alloc, value, index)
+    fn read(&self, alloc: Global, value: &Value, index: u32) -> Result<VesselPart, PlantTextFault> {
+        vessel(alloc, self.format, value, index)
+    }
+}
+
+/// The keys of a vessel.
+fn vessel_keys(format: PlantFormat) -> &'static [&'static str]
+    ensures { map (λ key. key.now) result.now ≡ vessel_keys format }
+{
+    match format {
+        PlantFormat::One => &["name", "arrival", "amounts"],
+        PlantFormat::Two => &["name", "arrival", "amounts", "berth"],
+        PlantFormat::Three => &["name", "arrival", "amounts", "berth", "demurrage"],
+    }
+}
+
+/// The berth of a vessel, which is 1 in format 1.
+fn berth(vessel: &Entry<'_>, format: PlantFormat) -> Result<i64, PlantTextFault>
+    requires { vessel.now.section ≡ Vessels }
+    ensures { Gives (λ berth. berth) result (berth_at format vessel.now.index (view vessel.now.value.now)) }
+{
+    match format {
+        PlantFormat::One => Ok(1),
+        PlantFormat::Two | PlantFormat::Three => vessel.whole_number(Key::Berth),
+    }
+}
+
+/// The demurrage of a vessel, which is 0 in formats 1 and 2.
+fn demurrage(vessel: &Entry<'_>, format: PlantFormat) -> Result<i64, PlantTextFault>
+    requires { vessel.now.section ≡ Vessels }
+    ensures { Gives (λ demurrage. demurrage) result (demurrage_at format vessel.now.index (view vessel.now.value.now)) }
+{
+    match format {
+        PlantFormat::One | PlantFormat::Two => Ok(0),
+        PlantFormat::Three => vessel.whole_number(Key::Demurrage),
     }
 }
 
 #[tactic(auto, unfolding(crate::specs::Walk::vessel_at))]
-fn vessel(alloc: Global, value: &Value, index: u32) -> Result<VesselPart, PlantTextFault>
-    ensures { Gives (λ part. part) result (vessel_at index (view value.now)) }
+fn vessel(
+    alloc: Global,
+    format: PlantFormat,
+    value: &Value,
+    index: u32,
+) -> Result<VesselPart, PlantTextFault>
+    ensures { Gives (λ part. part) result (vessel_at format index (view value.now)) }
 {
     let entry = Entry::open(value, Section::Vessels, index)?;
     let name = entry.name(alloc, Key::Name)?;
     let arrival = entry.whole_number(Key::Arrival)?;
     let amounts = entry.whole_numbers(alloc, Key::Amounts)?;
-    entry.close(&["name", "arrival", "amounts"])?;
+    let berth = berth(&entry, format)?;
+    let demurrage = demurrage(&entry, format)?;
+    entry.close(vessel_keys(format))?;
     Ok(VesselPart {
         name,
         arrival,
         amounts,
+        berth,
+        demurrage,
     })
 }
 
 /// The storage tanks.
+#[derive(Drop)]
 pub(crate) struct StorageEntries;
 
 impl EntryReader for StorageEntries {
     type Part = TankPart;
 
-    ghost reading = { storage_at };
+    ghost reading = { λ _. storage_at };
 
-    fn read(alloc: Global, value: &Value, index: u32) -> Result<TankPart, PlantTextFault> {
+    fn read(&self, alloc: Global, value: &Value, index: u32) -> Result<TankPart, PlantTextFault> {
         storage(alloc, value, index)
     }
 }
@@ -161,14 +212,15 @@ fn storage(alloc: Global, value: &Value, index: u32) -> Result<TankPart, PlantTe
 }
 
 /// The charging tanks.
+#[derive(Drop)]
 pub(crate) struct ChargingEntries;
 
 impl EntryReader for ChargingEntries {
     type Part = TankPart;
 
-    ghost reading = { charging_at };
+    ghost reading = { λ _. charging_at };
 
-    fn read(alloc: Global, value: &Value, index: u32) -> Result<TankPart, PlantTextFault> {
+    fn read(&self, alloc: Global, value: &Value, index: u32) -> Result<TankPart, PlantTextFault> {
         charging(alloc, value, index)
     }
 }
@@ -194,14 +246,15 @@ fn charging(alloc: Global, value: &Value, index: u32) -> Result<TankPart, PlantT
 }
 
 /// The units.
+#[derive(Drop)]
 pub(crate) struct UnitEntries;
 
 impl EntryReader for UnitEntries {
     type Part = UnitPart;
 
-    ghost reading = { unit_at };
+    ghost reading = { λ _. unit_at };
 
-    fn read(alloc: Global, value: &Value, index: u32) -> Result<UnitPart, PlantTextFault> {
+    fn read(&self, alloc: Global, value: &Value, index: u32) -> Result<UnitPart, PlantTextFault> {
         unit(alloc, value, index)
     }
 }
@@ -223,14 +276,20 @@ fn unit(alloc: Global, value: &Value, index: u32) -> Result<UnitPart, PlantTextF
 }
 
 /// The operations.
+#[derive(Drop)]
 pub(crate) struct OperationEntries;
 
 impl EntryReader for OperationEntries {
     type Part = OperationPart;
 
-    ghost reading = { operation_at };
+    ghost reading = { λ _. operation_at };
 
-    fn read(alloc: Global, value: &Value, index: u32) -> Result<OperationPart, PlantTextFault> {
+    fn read(
+        &self,
+        alloc: Global,
+        value: &Value,
+        index: u32,
+    ) -> Result<OperationPart, PlantTextFault> {
         operation(alloc, value, index)
     }
 }

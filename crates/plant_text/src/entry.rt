@@ -3,14 +3,14 @@ ghost use Rattle.serde_json.specs.Find.{get, as_str, as_bool};
 ghost use Rattle.serde_json.specs.View.{view, members_view};
 ghost use Rattle.plant_text.specs.Kinds.{whole_number, whole_numbers, pair, pairs};
 ghost use Rattle.plant_text.specs.Names.{key_name};
-ghost use Rattle.plant_text.specs.Walk.{misshapen, opened, closed, has_only, keyed_by, format_one, field};
+ghost use Rattle.plant_text.specs.Walk.{misshapen, opened, closed, has_only, keyed_by, format_of, field};
 ghost use Rattle.std.specs.BTreeMap as tree;
 ghost use Rattle.std.specs.List.{list_any, list_all};
 ghost use Rattle.std.specs.Str.{bytes_eq};
 ghost use Rattle.plant_text.specs.Gives.{Gives};
 
 use crate::fault::PlantTextFault;
-use crate::kinds;
+use crate::kinds::{self, PlantFormat};
 use crate::names::key_name;
 use plant_model::{Key, Name, Numbers, Pair, Pairs, Place, Section};
 use serde_json::{Map, Value};
@@ -32,7 +32,8 @@ impl<'a> Entry<'a> {
         index: u32,
     ) -> Result<Entry<'a>, PlantTextFault>
         ensures opened { Gives (λ _. true) result (opened section index (view value.now)) }
-        ensures value { IfOk result (λ entry. (entry.value.now ≡ value.now) × (entry.section ≡ section) × (entry.index ≡ index)) }
+        ensures value { IfOk result
+            (λ entry. (entry.value.now ≡ value.now) × (entry.section ≡ section) × (entry.index ≡ index)) }
     {
         let entry = Entry {
             value,
@@ -66,7 +67,8 @@ impl<'a> Entry<'a> {
 
     /// The text under a key.
     pub(crate) fn text(&self, key: Key) -> Result<&'a str, PlantTextFault>
-        ensures { Gives (λ text. text.now) result (field as_str self.now.section self.now.index key (view self.now.value.now)) }
+        ensures { Gives (λ text. text.now) result
+            (field as_str self.now.section self.now.index key (view self.now.value.now)) }
     {
         match self.under(key).and_then(Value::as_str) {
             Some(text) => Ok(text),
@@ -76,7 +78,8 @@ impl<'a> Entry<'a> {
 
     /// The whole number under a key.
     pub(crate) fn whole_number(&self, key: Key) -> Result<i64, PlantTextFault>
-        ensures { Gives (λ number. number) result (field whole_number self.now.section self.now.index key (view self.now.value.now)) }
+        ensures { Gives (λ number. number) result
+            (field whole_number self.now.section self.now.index key (view self.now.value.now)) }
     {
         match self.under(key).and_then(kinds::whole_number) {
             Some(number) => Ok(number),
@@ -84,19 +87,21 @@ impl<'a> Entry<'a> {
         }
     }
 
-    /// The number of the format under a key.
-    pub(crate) fn format(&self, key: Key) -> Result<i64, PlantTextFault>
-        ensures { Gives (λ number. number) result (field format_one self.now.section self.now.index key (view self.now.value.now)) }
+    /// The format under a key.
+    pub(crate) fn format(&self, key: Key) -> Result<PlantFormat, PlantTextFault>
+        ensures { Gives (λ format. format) result
+            (field format_of self.now.section self.now.index key (view self.now.value.now)) }
     {
-        match self.under(key).and_then(kinds::format) {
-            Some(number) => Ok(number),
+        match self.under(key).and_then(kinds::format_of) {
+            Some(format) => Ok(format),
             None => Err(self.misshapen(key)),
         }
     }
 
     /// True or false under a key.
     pub(crate) fn flag(&self, key: Key) -> Result<bool, PlantTextFault>
-        ensures { Gives (λ flag. flag) result (field as_bool self.now.section self.now.index key (view self.now.value.now)) }
+        ensures { Gives (λ flag. flag) result
+            (field as_bool self.now.section self.now.index key (view self.now.value.now)) }
     {
         match self.under(key).and_then(Value::as_bool) {
             Some(flag) => Ok(flag),
@@ -106,7 +111,8 @@ impl<'a> Entry<'a> {
 
     /// The pair under a key.
     pub(crate) fn pair(&self, key: Key) -> Result<Pair, PlantTextFault>
-        ensures { Gives (λ pair. pair) result (field pair self.now.section self.now.index key (view self.now.value.now)) }
+        ensures { Gives (λ pair. pair) result
+            (field pair self.now.section self.now.index key (view self.now.value.now)) }
     {
         match self.under(key).and_then(kinds::pair) {
             Some(pair) => Ok(pair),
@@ -116,7 +122,8 @@ impl<'a> Entry<'a> {
 
     /// The name under a key.
     pub(crate) fn name(&self, alloc: Global, key: Key) -> Result<Name, PlantTextFault>
-        ensures { Gives (λ name. name) result (field as_str self.now.section self.now.index key (view self.now.value.now)) }
+        ensures { Gives (λ name. name) result
+            (field as_str self.now.section self.now.index key (view self.now.value.now)) }
     {
         let text = self.text(key)?;
         Ok(Name::new(alloc, text.as_bytes())?)
@@ -124,7 +131,8 @@ impl<'a> Entry<'a> {
 
     /// The list of whole numbers under a key.
     pub(crate) fn whole_numbers(&self, alloc: Global, key: Key) -> Result<Numbers, PlantTextFault>
-        ensures { Gives (λ numbers. numbers) result (field whole_numbers self.now.section self.now.index key (view self.now.value.now)) }
+        ensures { Gives (λ numbers. numbers) result
+            (field whole_numbers self.now.section self.now.index key (view self.now.value.now)) }
     {
         let Some(value) = self.under(key) else {
             return Err(self.misshapen(key));
@@ -137,7 +145,8 @@ impl<'a> Entry<'a> {
 
     /// The list of pairs under a key.
     pub(crate) fn pairs(&self, alloc: Global, key: Key) -> Result<Pairs, PlantTextFault>
-        ensures { Gives (λ pairs. pairs) result (field pairs self.now.section self.now.index key (view self.now.value.now)) }
+        ensures { Gives (λ pairs. pairs) result
+            (field pairs self.now.section self.now.index key (view self.now.value.now)) }
     {
         let Some(value) = self.under(key) else {
             return Err(self.misshapen(key));
@@ -150,7 +159,8 @@ impl<'a> Entry<'a> {
 
     /// The entry has no key but these.
     pub(crate) fn close(&self, keys: &[&str]) -> Result<(), PlantTextFault>
-        ensures { Gives (λ _. true) result (closed self.now.section self.now.index (map (λ key. key.now) keys.now) (view self.now.value.now)) }
+        ensures { Gives (λ _. true) result
+            (closed self.now.section self.now.index (map (λ key. key.now) keys.now) (view self.now.value.now)) }
     {
         if has_only(keys, self.value) {
             Ok(())
@@ -176,7 +186,9 @@ fn is_keyed_by(keys: &[&str], members: &Map<String, Value>) -> bool
 }
 
 fn has_all(keys: &[&str], members: &Map<String, Value>) -> bool
-    ensures { result ≡ list_all (λ name. list_any (bytes_eq (string_bytes name)) (map (λ key. key.now) keys.now)) (tree.keys members.now) }
+    ensures { result
+        ≡ list_all (λ name. list_any (bytes_eq (string_bytes name)) (map (λ key. key.now) keys.now))
+        (tree.keys members.now) }
 {
     members.keys().all(|name| is_among(keys, name.as_str()))
 }

@@ -1,6 +1,6 @@
 ghost use Rattle.std.specs.Prelude.{◌≡◌, IfOk, option_map};
 ghost use Rattle.serde_json.specs.View.{view, items_view};
-ghost use Rattle.plant_text.specs.Walk.{format_one};
+ghost use Rattle.plant_text.specs.Walk.{format_of};
 ghost use Rattle.plant_text.specs.Kinds.{whole_number, whole_numbers, each_in, pair_in, pair, pairs};
 
 use item_lists::{Copies, Items};
@@ -15,11 +15,24 @@ pub(crate) fn whole_number(value: &Value) -> Option<i64>
     value.as_i64()
 }
 
-/// The number of a format that is read, which is 1.
-pub(crate) fn format(value: &Value) -> Option<i64>
-    ensures { result ≡ format_one (view value.now) }
+/// A format of plant texts. Format 2 tells the berths of vessels, format 3 their demurrage too.
+#[derive(Clone, Copy)]
+pub(crate) enum PlantFormat {
+    One,
+    Two,
+    Three,
+}
+
+/// The format that a value is the number of.
+pub(crate) fn format_of(value: &Value) -> Option<PlantFormat>
+    ensures { result ≡ format_of (view value.now) }
 {
-    whole_number(value).filter(|number| *number == 1)
+    match whole_number(value)? {
+        1 => Some(PlantFormat::One),
+        2 => Some(PlantFormat::Two),
+        3 => Some(PlantFormat::Three),
+        _ => None,
+    }
 }
 
 fn whole_numbers_in(alloc: Global, values: &[Value]) -> Result<Option<Vec<i64>>, AllocError>

@@ -33,6 +33,8 @@ pub fn key_name(key: Key) -> &'static str
         Key::Properties => "properties",
         Key::Arrival => "arrival",
         Key::Amounts => "amounts",
+        Key::Berth => "berth",
+        Key::Demurrage => "demurrage",
         Key::Min => "min",
         Key::Max => "max",
         Key::Demand => "demand",

@@ -30,7 +30,7 @@ pub fn read_plant(alloc: Global, bytes: &[u8]) -> Result<Plant, PlantTextFault>
     plant(alloc, parts)
 }
 
-fn json(alloc: Global, bytes: &[u8]) -> Result<Value, PlantTextFault>
+pub(crate) fn json(alloc: Global, bytes: &[u8]) -> Result<Value, PlantTextFault>
     ensures { Gives (λ whole. view whole) result (json_of bytes.now) }
 {
     match Value::from_slice(alloc, bytes) {
@@ -77,17 +77,18 @@ fn first_to_come(whole: &Value) -> Result<(), Section>
 }
 
 #[tactic(auto, unfolding(crate::specs::Walk::parts_of))]
-fn parts(alloc: Global, whole: &Value) -> Result<Parts, PlantTextFault>
+pub(crate) fn parts(alloc: Global, whole: &Value) -> Result<Parts, PlantTextFault>
     ensures { Gives (λ parts. parts) result (parts_of (view whole.now)) }
 {
     let lists = sections(whole)?;
-    let properties = entries::<PropertyEntries>(alloc, lists.properties)?;
-    let crudes = entries::<CrudeEntries>(alloc, lists.crudes)?;
-    let vessels = entries::<VesselEntries>(alloc, lists.vessels)?;
-    let storage = entries::<StorageEntries>(alloc, lists.storage)?;
-    let charging = entries::<ChargingEntries>(alloc, lists.charging)?;
-    let units = entries::<UnitEntries>(alloc, lists.units)?;
-    let operations = entries::<OperationEntries>(alloc, lists.operations)?;
+    let format = lists.format;
+    let properties = entries(alloc, &PropertyEntries, lists.properties)?;
+    let crudes = entries(alloc, &CrudeEntries, lists.crudes)?;
+    let vessels = entries(alloc, &VesselEntries { format }, lists.vessels)?;
+    let storage = entries(alloc, &StorageEntries, lists.storage)?;
+    let charging = entries(alloc, &ChargingEntries, lists.charging)?;
+    let units = entries(alloc, &UnitEntries, lists.units)?;
+    let operations = entries(alloc, &OperationEntries, lists.operations)?;
     Ok(Parts {
         horizon: lists.horizon,
         properties,
@@ -100,7 +101,7 @@ fn parts(alloc: Global, whole: &Value) -> Result<Parts, PlantTextFault>
     })
 }
 
-fn plant(alloc: Global, parts: Parts) -> Result<Plant, PlantTextFault>
+pub(crate) fn plant(alloc: Global, parts: Parts) -> Result<Plant, PlantTextFault>
     ensures { Gives (λ plant. plant) result (sound_or (first_of (faults_of parts)) parts) }
 {
     match Plant::new(alloc, parts) {

@@ -7,13 +7,15 @@ ghost use Rattle.plant_text.specs.Seen.{lists_seen};
 
 use crate::entry::Entry;
 use crate::fault::PlantTextFault;
+use crate::kinds::PlantFormat;
 use crate::names::section_name;
 use plant_model::{Key, Place, Section};
 use serde_json::Value;
 
-/// What a plant text has on its first level: the horizon in minutes, and a list for each section.
+/// What a plant text has on its first level: its format, the horizon in minutes, and a list for each section.
 #[derive(Drop)]
 pub(crate) struct SectionLists<'a> {
+    pub(crate) format: PlantFormat,
     pub(crate) horizon: i64,
     pub(crate) properties: &'a [Value],
     pub(crate) crudes: &'a [Value],
@@ -55,7 +57,7 @@ pub(crate) fn sections(whole: &Value) -> Result<SectionLists<'_>, PlantTextFault
     ensures { Gives lists_seen result (sections_of (view whole.now)) }
 {
     let plant = Entry::open(whole, Section::Plant, 0)?;
-    plant.format(Key::Format)?;
+    let format = plant.format(Key::Format)?;
     let horizon = plant.whole_number(Key::Horizon)?;
     let properties = section(whole, Section::Properties)?;
     let crudes = section(whole, Section::Crudes)?;
@@ -66,6 +68,7 @@ pub(crate) fn sections(whole: &Value) -> Result<SectionLists<'_>, PlantTextFault
     let operations = section(whole, Section::Operations)?;
     plant.close(&PLANT_KEYS)?;
     Ok(SectionLists {
+        format,
         horizon,
         properties,
         crudes,

@@ -3,10 +3,12 @@ use Rattle.std.proofs.Common.{◌≡◌, ◌⊎◌, ℕ, ◌+◌, ◌<◌, ◌�
 use Rattle.std.proofs.lemmas.Bool.Decides.{nat_tests}
 use Rattle.item_lists.specs.Faults.{unless}
 use Rattle.item_lists.proofs.FaultLaws.{nil_of_append, holds_of_nil}
+use Rattle.limits.specs.declared.TheConstants.{MOST_HORIZON, MOST_VOLUME}
 use Rattle.plant_model.specs.declared.parts.Parts.{Parts}
 use Rattle.plant_model.specs.Parts.{horizon_of, op_count_of, op_of, place_of}
 use Rattle.plant_model.specs.Sound.{SoundOp, SoundPlant}
 use Rattle.replay_core.specs.declared.timed.Timed.{Timed}
+use Rattle.replay_core.specs.declared.order.Order.{Order}
 use Rattle.replay_core.specs.State.{held_of, state_after}
 use Rattle.replay_core.specs.Rules.{is_inside, is_unit, is_known, lasts, keeps_window, keeps_volume, meets_rate, waits_for_others, keeps_vessel_order, leaves_minimum, keeps_maximum, meets_limits}
 use Rattle.replay_core.specs.Legal.{broken, own_faults, order_faults, place_faults, op_faults, IsInRange}
@@ -70,17 +72,18 @@ place_rules_kept parts before t at none =
       limits = holds_of_nil (meets_limits parts state t) (broken 11 at) to4.1;
     }
 
-pub record KeepsRules (parts : Parts) (before : List Timed) (t : Timed) (at : ℕ) : Type 0 where
+pub record KeepsRules (parts : Parts) (order : Order) (before : List Timed) (t : Timed) (at : ℕ) : Type 0 where
   pub own : own_faults parts t at ≡ []
-  pub order : order_faults before t at ≡ []
+  pub in_order : order_faults parts order before t at ≡ []
   pub places : place_faults parts before t at ≡ []
 
-pub rules_kept : (parts : Parts) (before : List Timed) (t : Timed) (at : ℕ) → op_faults parts before t at ≡ [] → KeepsRules parts before t at
+pub rules_kept : (parts : Parts) (order : Order) (before : List Timed) (t : Timed) (at : ℕ) → op_faults parts order before t at ≡ [] →
+    KeepsRules parts order before t at
 unfolding op_faults
-rules_kept parts before t at none =
-    let front = nil_of_append (own_faults parts t at ++ order_faults before t at) (place_faults parts before t at) none in
-    let parted = nil_of_append (own_faults parts t at) (order_faults before t at) front.0 in
-    record { own = parted.0; order = parted.1; places = front.1 }
+rules_kept parts order before t at none =
+    let front = nil_of_append (own_faults parts t at ++ order_faults parts order before t at) (place_faults parts before t at) none in
+    let parted = nil_of_append (own_faults parts t at) (order_faults parts order before t at) front.0 in
+    record { own = parted.0; in_order = parted.1; places = front.1 }
 
 -- ---- in numbers
 
@@ -95,7 +98,8 @@ lasts-below t lasting = grind (arith, nat_tests)
 inside-bounds : (low high n : ℕ) → is_inside (low, high) n ≡ true → (low ≤ n) × (n ≤ high)
 inside-bounds low high n inside = (grind (arith, nat_tests), grind (arith, nat_tests))
 
-pub volume-inside : (parts : Parts) (t : Timed) → keeps_volume parts t ≡ true → ((op_of parts t.op).volume.0 ≤ t.volume) × (t.volume ≤ (op_of parts t.op).volume.1)
+pub volume-inside : (parts : Parts) (t : Timed) → keeps_volume parts t ≡ true → ((op_of parts t.op).volume.0 ≤ t.volume) ×
+    (t.volume ≤ (op_of parts t.op).volume.1)
 unfolding keeps_volume
 volume-inside parts t kept = inside-bounds (op_of parts t.op).volume.0 (op_of parts t.op).volume.1 t.volume kept
 
@@ -109,7 +113,8 @@ unfolding leaves_minimum
 minimum-left parts state t kept = grind (arith, nat_tests)
 
 pub maximum-kept : (parts : Parts) (state : List (List ℕ)) (t : Timed) → keeps_maximum parts state t ≡ true →
-    (is_unit (place_of parts (op_of parts t.op).to).kind ≡ true) ⊎ (sum (held_of state (op_of parts t.op).to) + t.volume ≤ (place_of parts (op_of parts t.op).to).max)
+    (is_unit (place_of parts (op_of parts t.op).to).kind ≡ true) ⊎
+    (sum (held_of state (op_of parts t.op).to) + t.volume ≤ (place_of parts (op_of parts t.op).to).max)
 unfolding keeps_maximum
 maximum-kept parts state t kept = grind (arith, nat_tests)
 
@@ -119,25 +124,27 @@ pub record RunsSoundly (parts : Parts) (state : List (List ℕ)) (t : Timed) : T
   pub known : t.op < op_count_of parts
   pub sound : SoundOp parts (op_of parts t.op)
   pub lasts : t.start < t.end
-  pub in_horizon : t.end ≤ 100000
+  pub in_horizon : t.end ≤ MOST_HORIZON
   pub some : 1 ≤ t.volume
-  pub most : t.volume ≤ 10000000
+  pub most : t.volume ≤ MOST_VOLUME
   pub there : t.volume ≤ sum (held_of state (op_of parts t.op).from)
-  pub room : (is_unit (place_of parts (op_of parts t.op).to).kind ≡ true) ⊎ (sum (held_of state (op_of parts t.op).to) + t.volume ≤ (place_of parts (op_of parts t.op).to).max)
+  pub room : (is_unit (place_of parts (op_of parts t.op).to).kind ≡ true) ⊎
+      (sum (held_of state (op_of parts t.op).to) + t.volume ≤ (place_of parts (op_of parts t.op).to).max)
 
-pub runs_soundly : (parts : Parts) (before : List Timed) (t : Timed) (at : ℕ) → SoundPlant parts → op_faults parts before t at ≡ [] → RunsSoundly parts (state_after parts before) t
-runs_soundly parts before t at sound none =
-    let kept = rules_kept parts before t at none in
+pub runs_soundly : (parts : Parts) (order : Order) (before : List Timed) (t : Timed) (at : ℕ) → SoundPlant parts → op_faults parts order before t at ≡ [] →
+    RunsSoundly parts (state_after parts before) t
+runs_soundly parts order before t at sound none =
+    let kept = rules_kept parts order before t at none in
     let own = own_rules_kept parts t at kept.own in
     let places = place_rules_kept parts before t at kept.places in
     let known = known-below parts t own.known in
     let op : SoundOp parts (op_of parts t.op) = sound.each_op t.op known in
     let volume = volume-inside parts t own.volume in
     let window = window-kept parts t own.window in
-    let horizon : horizon_of parts ≤ 100000 = sound.horizon.1 in
+    let horizon : horizon_of parts ≤ MOST_HORIZON = sound.horizon.1 in
     let last : (op_of parts t.op).window.1 ≤ horizon_of parts = op.within_horizon in
     let least : 1 ≤ (op_of parts t.op).volume.0 = op.volume.from_low in
-    let greatest : (op_of parts t.op).volume.1 ≤ 10000000 = op.volume.to_high in
+    let greatest : (op_of parts t.op).volume.1 ≤ MOST_VOLUME = op.volume.to_high in
     let left = minimum-left parts (state_after parts before) t places.minimum in
     record {
       known = known;
@@ -150,9 +157,9 @@ runs_soundly parts before t at sound none =
       room = maximum-kept parts (state_after parts before) t places.maximum;
     }
 
-pub is_in_range : (parts : Parts) (before : List Timed) (t : Timed) (at : ℕ) → op_faults parts before t at ≡ [] → IsInRange parts t
-is_in_range parts before t at none =
-    let own = own_rules_kept parts t at (rules_kept parts before t at none).own in
+pub is_in_range : (parts : Parts) (order : Order) (before : List Timed) (t : Timed) (at : ℕ) → op_faults parts order before t at ≡ [] → IsInRange parts t
+is_in_range parts order before t at none =
+    let own = own_rules_kept parts t at (rules_kept parts order before t at none).own in
     let window = window-kept parts t own.window in
     let volume = volume-inside parts t own.volume in
     record {

@@ -17,10 +17,11 @@ use Rattle.plant_model.specs.declared.details.Op.{Op}
 use Rattle.plant_model.specs.Parts.{natural, vessel_info, storage_info, charging_info, unit_info, no_place, crude_count_of, place_count_of, places_of, place_of, place_amounts_of, initial_amounts_of, op_of}
 use Rattle.plant_model.specs.Sound.{HoldsCrude, IsRoute, SoundOp, SoundPlant}
 use Rattle.replay_core.specs.declared.timed.Timed.{Timed}
+use Rattle.replay_core.specs.declared.order.Order.{Order}
 use Rattle.replay_core.specs.State.{initial_state, held_of, drawn_of, moved, after_step, state_after}
 use Rattle.replay_core.specs.Rules.{is_unit}
-use Rattle.replay_core.specs.Levels.{HoldsWithin}
-use Rattle.replay_core.specs.Legal.{IsAccepted}
+use Rattle.replay_core.specs.inside.Levels.{HoldsWithin}
+use Rattle.replay_core.specs.Legal.{CanRun}
 use Rattle.replay_core.proofs.StepLaws.{along_accepted}
 use Rattle.replay_core.proofs.RuleLaws.{RunsSoundly, runs_soundly}
 use Rattle.replay_core.proofs.PlaceLists.{length-per_place, at_each_place}
@@ -54,7 +55,8 @@ pub source_is_no_unit : (parts : Parts) (op : Op) → SoundOp parts op → is_un
 source_is_no_unit parts op sound = source-kind op.kind (place_of parts op.from).kind (place_of parts op.to).kind sound.route
 
 pub places_apart : (parts : Parts) (op : Op) → SoundOp parts op → op.from ≢ op.to
-places_apart parts op sound same = kinds_apart op.kind (place_of parts op.from).kind (place_of parts op.to).kind sound.route (ap (λ p. (place_of parts p).kind) same)
+places_apart parts op sound same = kinds_apart op.kind (place_of parts op.from).kind (place_of parts op.to).kind sound.route
+    (ap (λ p. (place_of parts p).kind) same)
 
 -- ---- before the first operation
 
@@ -66,7 +68,8 @@ length-initial_state parts = length-per_place _ _ _ _ parts
 StartsWith : ℕ → List ℤ → List ℕ → Type 0
 StartsWith crudes given held = (held ≡ map natural given) ⊎ ((given ≡ []) × (held ≡ replicate crudes 0))
 
-starts_with : (parts : Parts) (p : ℕ) → p < place_count_of parts → StartsWith (crude_count_of parts) (get_or (place_amounts_of parts) p []) (held_of (initial_state parts) p)
+starts_with : (parts : Parts) (p : ℕ) → p < place_count_of parts → StartsWith (crude_count_of parts) (get_or (place_amounts_of parts) p [])
+    (held_of (initial_state parts) p)
 unfolding StartsWith place_amounts_of initial_state
 starts_with parts p within =
     at_each_place (StartsWith (crude_count_of parts)) parts
@@ -76,7 +79,8 @@ starts_with parts p within =
     p [] [] within
 
 -- a vessel or a tank holds what it is given
-pub held-first : (parts : Parts) (p : ℕ) → SoundPlant parts → p < place_count_of parts → HoldsCrude (place_of parts p).kind → held_of (initial_state parts) p ≡ initial_amounts_of parts p
+pub held-first : (parts : Parts) (p : ℕ) → SoundPlant parts → p < place_count_of parts → HoldsCrude (place_of parts p).kind → held_of (initial_state parts) p
+    ≡ initial_amounts_of parts p
 unfolding StartsWith initial_amounts_of
 held-first parts p sound within holds =
     elim (starts_with parts p within) [
@@ -92,7 +96,8 @@ held-first parts p sound within holds =
 EmptyUnit : ℕ → PlaceInfo → List ℕ → Type 0
 EmptyUnit crudes place held = is_unit place.kind ≡ true → held ≡ replicate crudes 0
 
-pub held-first_unit : (parts : Parts) (p : ℕ) → p < place_count_of parts → is_unit (place_of parts p).kind ≡ true → held_of (initial_state parts) p ≡ replicate (crude_count_of parts) 0
+pub held-first_unit : (parts : Parts) (p : ℕ) → p < place_count_of parts → is_unit (place_of parts p).kind ≡ true → held_of (initial_state parts) p
+    ≡ replicate (crude_count_of parts) 0
 unfolding EmptyUnit place_of places_of initial_state
 held-first_unit parts p within is =
     at_each_place (EmptyUnit (crude_count_of parts)) parts
@@ -107,7 +112,8 @@ first-crudes : (parts : Parts) (p : ℕ) → SoundPlant parts → p < place_coun
 first-crudes parts p sound within =
     elim (cases_Bool (is_unit (place_of parts p).kind)) [
       | inl unit ↦ ap length (held-first_unit parts p within unit) ∙ length-replicate (crude_count_of parts) 0
-      | inr not_unit ↦ ap length (held-first parts p sound within (holds_crude (place_of parts p).kind not_unit)) ∙ (sound.each_amounts p within (holds_crude (place_of parts p).kind not_unit)).each_crude
+      | inr not_unit ↦ ap length (held-first parts p sound within (holds_crude (place_of parts p).kind not_unit))
+          ∙ (sound.each_amounts p within (holds_crude (place_of parts p).kind not_unit)).each_crude
     ]
 
 first-total : (parts : Parts) (p : ℕ) → SoundPlant parts → p < place_count_of parts → sum (held_of (initial_state parts) p) ≤ 10000000
@@ -135,12 +141,14 @@ length-moved state from to amounts =
     let left = set state from (rest_of (held_of state from) amounts) in
     length-set left to (mix_of (held_of left to) amounts) ∙ length-set state from (rest_of (held_of state from) amounts)
 
-pub moved-source : (state : List (List ℕ)) (from to : ℕ) (amounts : List ℕ) → from < length state → from ≢ to → held_of (moved state from to amounts) from ≡ rest_of (held_of state from) amounts
+pub moved-source : (state : List (List ℕ)) (from to : ℕ) (amounts : List ℕ) → from < length state → from ≢ to → held_of (moved state from to amounts) from
+    ≡ rest_of (held_of state from) amounts
 moved-source state from to amounts within apart =
     let left = set state from (rest_of (held_of state from) amounts) in
     get_or-set_other left to from (mix_of (held_of left to) amounts) [] apart ∙ get_or-set_same state from (rest_of (held_of state from) amounts) [] within
 
-pub moved-target : (state : List (List ℕ)) (from to : ℕ) (amounts : List ℕ) → to < length state → from ≢ to → held_of (moved state from to amounts) to ≡ mix_of (held_of state to) amounts
+pub moved-target : (state : List (List ℕ)) (from to : ℕ) (amounts : List ℕ) → to < length state → from ≢ to → held_of (moved state from to amounts) to
+    ≡ mix_of (held_of state to) amounts
 moved-target state from to amounts within apart =
     let left = set state from (rest_of (held_of state from) amounts) in
     let count = length-set state from (rest_of (held_of state from) amounts) in
@@ -151,7 +159,8 @@ moved-target state from to amounts within apart =
 pub moved-other : (state : List (List ℕ)) (from to p : ℕ) (amounts : List ℕ) → p ≢ from → p ≢ to → held_of (moved state from to amounts) p ≡ held_of state p
 moved-other state from to p amounts not_source not_target =
     let left = set state from (rest_of (held_of state from) amounts) in
-    get_or-set_other left to p (mix_of (held_of left to) amounts) [] not_target ∙ get_or-set_other state from p (rest_of (held_of state from) amounts) [] not_source
+    get_or-set_other left to p (mix_of (held_of left to) amounts) [] not_target ∙ get_or-set_other state from p (rest_of (held_of state from) amounts) []
+    not_source
 
 -- ---- one operation
 
@@ -164,13 +173,16 @@ pub drawn-volume : (parts : Parts) (state : List (List ℕ)) (t : Timed) → Run
 unfolding drawn_of
 drawn-volume parts state t runs = (let there = runs.there in let some = runs.some in sum-draw_of (held_of state (op_of parts t.op).from) t.volume (omega arith))
 
-drawn-within : (parts : Parts) (state : List (List ℕ)) (t : Timed) (c : ℕ) → RunsSoundly parts state t → get_or (drawn_of parts state t) c 0 ≤ get_or (held_of state (op_of parts t.op).from) c 0
+drawn-within : (parts : Parts) (state : List (List ℕ)) (t : Timed) (c : ℕ) → RunsSoundly parts state t → get_or (drawn_of parts state t) c 0
+    ≤ get_or (held_of state (op_of parts t.op).from) c 0
 unfolding drawn_of
-drawn-within parts state t c runs = (let there = runs.there in let some = runs.some in draw_of-within (held_of state (op_of parts t.op).from) t.volume c (omega arith) there)
+drawn-within parts state t c runs = (let there = runs.there in let some = runs.some in
+    draw_of-within (held_of state (op_of parts t.op).from) t.volume c (omega arith) there)
 
 -- what a place holds after the operation: the source, the destination, another
 after-source : (parts : Parts) (n : ℕ) (state : List (List ℕ)) (t : Timed) → HoldsWithin parts n state → RunsSoundly parts state t →
-    (length (held_of (after_step parts state t) (op_of parts t.op).from) ≡ crude_count_of parts) × (sum (held_of (after_step parts state t) (op_of parts t.op).from) + t.volume ≡ sum (held_of state (op_of parts t.op).from))
+    (length (held_of (after_step parts state t) (op_of parts t.op).from) ≡ crude_count_of parts) ×
+    (sum (held_of (after_step parts state t) (op_of parts t.op).from) + t.volume ≡ sum (held_of state (op_of parts t.op).from))
 unfolding after_step
 after-source parts n state t holds runs =
     let op = op_of parts t.op in
@@ -185,7 +197,8 @@ after-source parts n state t holds runs =
     (ap length is ∙ length-rest_of held drawn ∙ holds.crudes op.from sound.from_place, omega arith)
 
 after-target : (parts : Parts) (n : ℕ) (state : List (List ℕ)) (t : Timed) → HoldsWithin parts n state → RunsSoundly parts state t →
-    (length (held_of (after_step parts state t) (op_of parts t.op).to) ≡ crude_count_of parts) × (sum (held_of (after_step parts state t) (op_of parts t.op).to) ≡ sum (held_of state (op_of parts t.op).to) + t.volume)
+    (length (held_of (after_step parts state t) (op_of parts t.op).to) ≡ crude_count_of parts) ×
+    (sum (held_of (after_step parts state t) (op_of parts t.op).to) ≡ sum (held_of state (op_of parts t.op).to) + t.volume)
 unfolding after_step
 after-target parts n state t holds runs =
     let op = op_of parts t.op in
@@ -200,9 +213,11 @@ after-target parts n state t holds runs =
     let same = ap sum is in
     (ap length is ∙ length-mix_of held drawn ∙ holds.crudes op.to sound.to_place, omega arith)
 
-after-other : (parts : Parts) (state : List (List ℕ)) (t : Timed) (p : ℕ) → p ≢ (op_of parts t.op).from → p ≢ (op_of parts t.op).to → held_of (after_step parts state t) p ≡ held_of state p
+after-other : (parts : Parts) (state : List (List ℕ)) (t : Timed) (p : ℕ) → p ≢ (op_of parts t.op).from → p ≢ (op_of parts t.op).to →
+    held_of (after_step parts state t) p ≡ held_of state p
 unfolding after_step
-after-other parts state t p not_source not_target = moved-other state (op_of parts t.op).from (op_of parts t.op).to p (drawn_of parts state t) not_source not_target
+after-other parts state t p not_source not_target = moved-other state (op_of parts t.op).from (op_of parts t.op).to p (drawn_of parts state t) not_source
+    not_target
 
 -- of one place after the operation
 record HoldsAt (parts : Parts) (n : ℕ) (state : List (List ℕ)) (p : ℕ) : Type 0 where
@@ -210,12 +225,14 @@ record HoldsAt (parts : Parts) (n : ℕ) (state : List (List ℕ)) (p : ℕ) : T
   tank : is_unit (place_of parts p).kind ≡ false → sum (held_of state p) ≤ 10000000
   any : sum (held_of state p) ≤ 10000000 * (n + 1)
 
-target-tank : (parts : Parts) (state : List (List ℕ)) (t : Timed) → SoundPlant parts → RunsSoundly parts state t → is_unit (place_of parts (op_of parts t.op).to).kind ≡ false → sum (held_of state (op_of parts t.op).to) + t.volume ≤ 10000000
+target-tank : (parts : Parts) (state : List (List ℕ)) (t : Timed) → SoundPlant parts → RunsSoundly parts state t →
+    is_unit (place_of parts (op_of parts t.op).to).kind ≡ false → sum (held_of state (op_of parts t.op).to) + t.volume ≤ 10000000
 target-tank parts state t plant runs not_unit =
     let levels : (place_of parts (op_of parts t.op).to).max ≤ 10000000 = (plant.each_place (op_of parts t.op).to runs.sound.to_place).levels.to_high in
     elim runs.room [ inl unit ↦ cc | inr room ↦ omega arith ]
 
-holds_at-after : (parts : Parts) (n : ℕ) (state : List (List ℕ)) (t : Timed) (p : ℕ) → SoundPlant parts → HoldsWithin parts n state → RunsSoundly parts state t → p < place_count_of parts → HoldsAt parts (n + 1) (after_step parts state t) p
+holds_at-after : (parts : Parts) (n : ℕ) (state : List (List ℕ)) (t : Timed) (p : ℕ) → SoundPlant parts → HoldsWithin parts n state → RunsSoundly parts state t
+    → p < place_count_of parts → HoldsAt parts (n + 1) (after_step parts state t) p
 holds_at-after parts n state t p plant holds runs within =
     let op = op_of parts t.op in
     let most = runs.most in
@@ -230,16 +247,22 @@ holds_at-after parts n state t p plant holds runs within =
         | inl is ↦
             let after = after-target parts n state t holds runs in
             let target = holds.all op.to runs.sound.to_place in
-            let at : HoldsAt parts (n + 1) (after_step parts state t) op.to = record { crudes = after.0; tank = λ not_unit. (let tank = target-tank parts state t plant runs not_unit in omega arith); any = omega arith } in
+            let at : HoldsAt parts (n + 1) (after_step parts state t) op.to =
+            record { crudes = after.0; tank = λ not_unit. (let tank = target-tank parts state t plant runs not_unit in omega arith); any = omega arith } in
             subst (λ (q : ℕ). HoldsAt parts (n + 1) (after_step parts state t) q) (sym is) at
         | inr not_target ↦
             let same = after-other parts state t p not_source not_target in
             let total = ap sum same in
-            record { crudes = ap length same ∙ holds.crudes p within; tank = λ not_unit. (let tank = holds.tanks p within not_unit in omega arith); any = omega arith }
+            record {
+              crudes = ap length same ∙ holds.crudes p within;
+              tank = λ not_unit. (let tank = holds.tanks p within not_unit in omega arith);
+              any = omega arith;
+            }
       ]
     ]
 
-pub holds_within-after : (parts : Parts) (n : ℕ) (state : List (List ℕ)) (t : Timed) → SoundPlant parts → HoldsWithin parts n state → RunsSoundly parts state t → HoldsWithin parts (n + 1) (after_step parts state t)
+pub holds_within-after : (parts : Parts) (n : ℕ) (state : List (List ℕ)) (t : Timed) → SoundPlant parts → HoldsWithin parts n state → RunsSoundly parts state t
+    → HoldsWithin parts (n + 1) (after_step parts state t)
 unfolding after_step
 holds_within-after parts n state t plant holds runs = record {
   count = length-moved state (op_of parts t.op).from (op_of parts t.op).to (drawn_of parts state t) ∙ holds.count;
@@ -254,13 +277,14 @@ pub state_after_push : (parts : Parts) (steps : List Timed) (t : Timed) → stat
 unfolding state_after
 state_after_push parts steps t = fold_push (after_step parts) (initial_state parts) steps t
 
-pub holds_within-accepted : (parts : Parts) (steps : List Timed) → SoundPlant parts → IsAccepted parts steps → HoldsWithin parts (length steps) (state_after parts steps)
+pub holds_within-accepted : (parts : Parts) (order : Order) (steps : List Timed) → SoundPlant parts → CanRun parts order steps →
+    HoldsWithin parts (length steps) (state_after parts steps)
 unfolding state_after
-holds_within-accepted parts steps plant accepted =
-    along_accepted parts (λ (done : List Timed). HoldsWithin parts (length done) (state_after parts done))
+holds_within-accepted parts order steps plant accepted =
+    along_accepted parts order (λ (done : List Timed). HoldsWithin parts (length done) (state_after parts done))
     (holds_within-first parts plant)
     (λ before t so_far holds none.
-    let runs = runs_soundly parts before t (length before + 1) plant none in
+    let runs = runs_soundly parts order before t (length before + 1) plant none in
     let after = holds_within-after parts (length before) (state_after parts before) t plant holds runs in
     let one = length_push before t in
     subst (λ (n : ℕ). HoldsWithin parts n (state_after parts (before ++ t ∷ []))) (sym one)

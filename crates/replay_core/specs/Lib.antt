@@ -4,9 +4,6 @@ pub mod Rules
 pub mod Legal
 pub mod Margin
 pub mod Claim
-pub mod Levels
 pub mod Replayed
-pub mod Tally
-pub mod Ends
-pub mod Kept
 pub mod Replays
+pub mod inside

@@ -4,13 +4,14 @@ use Rattle.std.specs.Prelude.{ℕ, ◌+◌, ◌-◌, ◌*◌, Bool, true, false,
 use Rattle.std.specs.List.{list_all, range_with_len}
 use Rattle.number_laws.specs.Sums.{sum_below}
 use Rattle.plant_model.specs.declared.parts.Parts.{Parts}
-use Rattle.plant_model.specs.declared.details.Op.{Op}
 use Rattle.plant_model.specs.declared.details.PlaceInfo.{PlaceInfo}
 use Rattle.plant_model.specs.declared.details.PlaceKind.{PlaceKind}
 use Rattle.plant_model.specs.declared.details.PlaceKind.TheVariants.{Vessel, Storage, Charging, Unit as DistillationUnit}
 use Rattle.plant_model.specs.Parts.{horizon_of, crude_count_of, property_count_of, op_count_of, op_of, place_of, property_of, limit_of}
-use Rattle.plant_model.specs.Relations.{is_unload, is_charge, refused_at_once_of}
+use Rattle.plant_model.specs.Relations.{share_berth, is_charge, refused_at_once_of, ordered_of}
 use Rattle.replay_core.specs.declared.timed.Timed.{Timed}
+use Rattle.replay_core.specs.declared.order.Order.{Order}
+use Rattle.replay_core.specs.declared.order.Order.TheVariants.{ByStart, BySlot}
 use Rattle.replay_core.specs.State.{held_of, drawn_of}
 use Rattle.replay_core.specs.Counts.{charges_of, minutes_of, charged_of}
 
@@ -70,21 +71,33 @@ meets_rate parts t =
 unfoldable pub last_start : List Timed → ℕ
 last_start before = fold (λ _ (s : Timed). s.start) 0 before
 
--- 6: it starts no earlier than the one before
+-- it starts no earlier than the one before
 unfoldable pub starts_in_order : List Timed → Timed → Bool
 starts_in_order before t = nat_le (last_start before) t.start
 
+-- it starts no earlier than any of those before with which it may not change places
+unfoldable pub starts_after_ordered : Parts → List Timed → Timed → Bool
+starts_after_ordered parts before t =
+    list_all (λ (s : Timed). not (ordered_of parts s.op t.op) || nat_le s.start t.start) before
+
+-- 6: it keeps the order that is asked for
+abbrev pub keeps_order : Parts → Order → List Timed → Timed → Bool
+keeps_order parts ByStart before t = starts_in_order before t
+keeps_order parts BySlot before t = starts_after_ordered parts before t
+
 -- 7: whatever may not run beside it has ended
 unfoldable pub waits_for_others : Parts → List Timed → Timed → Bool
-waits_for_others parts before t = list_all (λ (s : Timed). not (refused_at_once_of parts s.op t.op) || nat_le s.end t.start) before
+waits_for_others parts before t =
+    list_all (λ (s : Timed). not (refused_at_once_of parts s.op t.op) || nat_le s.end t.start) before
 
--- the first unloads a vessel, the second one that stands earlier in the list
-unfoldable pub unloads_later_vessel : Op → Op → Bool
-unloads_later_vessel a b = is_unload a.kind && is_unload b.kind && nat_lt b.from a.from
+-- both unload vessels of one berth, and the first one's stands later in the list
+unfoldable pub unloads_later_vessel : Parts → ℕ → ℕ → Bool
+unloads_later_vessel parts v w = share_berth parts (op_of parts v) (op_of parts w)
+    && nat_lt (op_of parts w).from (op_of parts v).from
 
--- 8: vessels unload in the order of their list
+-- 8: the vessels of a berth unload in the order of their list
 unfoldable pub keeps_vessel_order : Parts → List Timed → Timed → Bool
-keeps_vessel_order parts before t = list_all (λ (s : Timed). not (unloads_later_vessel (op_of parts s.op) (op_of parts t.op))) before
+keeps_vessel_order parts before t = list_all (λ (s : Timed). not (unloads_later_vessel parts s.op t.op)) before
 
 -- ---- of the operation and the state before it
 
@@ -130,4 +143,5 @@ meets_demand parts plan p place = not (is_charging place.kind) || is_inside plac
 unfoldable pub meets_charges : Parts → List Timed → ℕ → PlaceInfo → Bool
 meets_charges parts plan p place =
     not (is_unit place.kind)
-    || (not place.continuous || minutes_of parts plan p == horizon_of parts) && is_inside place.charges (charges_of parts plan p)
+    || (not place.continuous || minutes_of parts plan p == horizon_of parts)
+    && is_inside place.charges (charges_of parts plan p)

@@ -10,7 +10,8 @@ use Rattle.replay_core.specs.declared.timed.Timed.{Timed}
 -- before the first operation: what vessels and tanks hold at first, and empty units
 unfoldable pub initial_state : Parts → List (List ℕ)
 initial_state parts =
-    per_place (λ vessel. map natural vessel.amounts) (λ tank. map natural tank.amounts) (λ tank. map natural tank.amounts) (λ part. replicate (crude_count_of parts) 0) parts
+    per_place (λ vessel. map natural vessel.amounts) (λ tank. map natural tank.amounts)
+    (λ tank. map natural tank.amounts) (λ part. replicate (crude_count_of parts) 0) parts
 
 -- what place p holds, crude by crude
 abbrev pub held_of : List (List ℕ) → ℕ → List ℕ

@@ -1,11 +1,14 @@
 ghost use Rattle.std.specs.Prelude.{◌≡◌, ◌+◌, ◌≤◌, ◌++◌, length, OnOk};
 ghost use Rattle.std.specs.Result.{result_err};
 ghost use Rattle.item_lists.specs.Faults.{first_of};
+ghost use Rattle.limits.specs.declared.TheConstants.{MOST_STEPS};
+ghost use Rattle.replay_core.specs.declared.order.Order.TheVariants.{ByStart};
 ghost use Rattle.replay_core.specs.declared.outcome.ReplayFault.TheVariants.{Rule, Memory};
 ghost use Rattle.replay_core.specs.Legal.{step_faults_from};
 ghost use Rattle.replay_core.specs.Replays.{Replays};
 
 use crate::broken::Broken;
+use crate::order::Order;
 use crate::running::Replay;
 use crate::timed::{AmountList, Timed};
 use plant_model::Plant;
@@ -44,8 +47,9 @@ impl From<Broken> for ReplayFault {
 
 /// Lets the operations run up to the first that breaks a rule.
 fn run(replay: &mut Replay, plan: &[Timed]) -> Result<(), Broken>
-    requires { length replay.old.steps + length plan.now ≤ 1000 }
-    ensures broken { result_err result ≡ first_of (step_faults_from replay.old.parts replay.old.steps plan.now) }
+    requires { length replay.old.steps + length plan.now ≤ MOST_STEPS }
+    ensures broken { result_err result
+        ≡ first_of (step_faults_from replay.old.parts replay.old.order replay.old.steps plan.now) }
     ensures ok { OnOk result (replay.new ≡ record replay.old { steps = replay.old.steps ++ plan.now }) }
 {
     for t in plan {
@@ -57,10 +61,23 @@ fn run(replay: &mut Replay, plan: &[Timed]) -> Result<(), Broken>
 /// Replays a plan from the plant's first state. A legal plan has an outcome; any other is refused with
 /// the first rule that it breaks.
 pub fn replay(alloc: Global, plant: &Plant, plan: &[Timed]) -> Result<Outcome, ReplayFault>
-    requires { length plan.now ≤ 1000 }
-    ensures { Replays plant.now plan.now result }
+    requires { length plan.now ≤ MOST_STEPS }
+    ensures { Replays plant.now ByStart plan.now result }
 {
-    let mut replay = Replay::new(alloc, plant)?;
+    replay_in(alloc, plant, Order::ByStart, plan)
+}
+
+/// Likewise of operations that are to keep that order.
+pub fn replay_in(
+    alloc: Global,
+    plant: &Plant,
+    order: Order,
+    plan: &[Timed],
+) -> Result<Outcome, ReplayFault>
+    requires { length plan.now ≤ MOST_STEPS }
+    ensures { Replays plant.now order plan.now result }
+{
+    let mut replay = Replay::in_order(alloc, plant, order)?;
     run(&mut replay, plan)?;
     let margin = replay.finish()?;
     Ok(Outcome {

@@ -1,38 +1,40 @@
-ghost use Rattle.std.specs.Prelude.{◌≡◌, ℕ, ◌+◌, ◌<◌, ◌≤◌, ◌∷◌, [], ◌++◌, length, sum, IfOk, OnOk, OnErr, max, pos, if◌then◌else◌};
-ghost use Rattle.crude_amounts.specs.Amounts.{weighted_of};
-ghost use Rattle.plant_model.specs.Relations.{is_charge, is_unload};
-ghost use Rattle.replay_core.specs.Margin.{AreSmall, crude_margins_of};
-ghost use Rattle.replay_core.specs.Tally.{AreTallies};
-ghost use Rattle.replay_core.specs.Ends.{AreEnds};
+ghost use Rattle.std.specs.Prelude.{◌≡◌, ℕ, ◌+◌, ◌*◌, ◌<◌, ◌≤◌, ◌∷◌, [], ◌++◌, length, sum, IfOk, OnOk, OnErr, pos, if◌then◌else◌};
 ghost use Rattle.std.specs.Result.{result_err};
-ghost use Rattle.item_lists.specs.Faults.{first_of, unless, each_from};
+ghost use Rattle.limits.specs.declared.TheConstants.{MOST_MARGIN, MOST_PLACES, MOST_STEPS, MOST_VOLUME};
+ghost use Rattle.crude_amounts.specs.Amounts.{weighted_of};
+ghost use Rattle.plant_model.specs.Relations.{is_charge};
+ghost use Rattle.replay_core.specs.Margin.{AreSmall, crude_margins_of};
+ghost use Rattle.replay_core.specs.inside.Tally.{AreTallies};
+ghost use Rattle.replay_core.specs.inside.Latest.{AreLatest};
+ghost use Rattle.item_lists.specs.Faults.{first_of};
 
 use crate::broken::Broken;
-use crate::ends::{have_ended, last_start, note_end};
+use crate::end_rules::EndRule;
+use crate::latest::{Relation, last_start, none_is_later, note};
+use crate::order::Order;
 use crate::own_rules::{check_alone, expect_rule, is_inside};
-use crate::state::{first_state, is_charging, is_unit, is_unload, is_vessel, move_volume};
+use crate::state::{first_state, is_charging, is_unit, is_vessel, move_volume};
 use crate::state_rules::{keeps_maximum, leaves_minimum, meets_limits};
 use crate::tally::{Tally, count};
 use crate::timed::{AmountList, Timed};
 use crude_amounts::Amounts;
+use limits::MOST_STEPS;
 use plant_model::{Op, OpKind, Plant};
 use std::alloc::{AllocError, Global};
 use std::marker::Model;
-
-/// How many operations a replay takes.
-const STEPS: usize = 1000;
 
 /// A plant and the operations that have run in it so far, one after the other.
 #[derive(Drop)]
 pub struct Replay<'a> {
     plant: &'a Plant,
+    order: Order,
     steps: Vec<Timed>,
     held: Vec<Amounts>,
     tallies: Vec<Tally>,
+    starts: Vec<u32>,
     ends: Vec<u32>,
     margins: Vec<i64>,
-    last_vessel: u8,
-    margin: i64,
+    earned: i64,
 }
 
 impl<'a> Model for Replay<'a> {
@@ -40,38 +42,55 @@ impl<'a> Model for Replay<'a> {
 
     ghost Value = { Replayed };
 
-    ghost use Rattle.replay_core.specs.Kept.{IsReplay};
+    ghost use Rattle.replay_core.specs.inside.Kept.{IsReplay};
 
-    ghost view = { λ replay. record { parts = replay.plant.now; steps = replay.steps.items } };
+    ghost view = { λ replay. record { parts = replay.plant.now; order = replay.order; steps = replay.steps.items } };
 
     ghost invariant = { IsReplay };
 }
 
 impl Replay<'_> {
     ghost use Rattle.plant_model.specs.Parts.{op_count_of, place_count_of, place_of};
+    ghost use Rattle.replay_core.specs.declared.order.Order.TheVariants.{ByStart};
     ghost use Rattle.replay_core.specs.State.{held_of, state_after, draw_at};
-    ghost use Rattle.replay_core.specs.Levels.{HoldsWithin};
-    ghost use Rattle.replay_core.specs.Counts.{charges_of, minutes_of};
-    ghost use Rattle.replay_core.specs.Tally.{tally_of, AreTallies};
-    ghost use Rattle.replay_core.specs.Ends.{last_vessel_of, AreEnds};
-    ghost use Rattle.replay_core.specs.Rules.{waits_for_others, keeps_vessel_order, is_emptied, meets_demand, meets_charges};
-    ghost use Rattle.replay_core.specs.Legal.{IsAccepted, IsLegal, order_faults, place_faults, op_faults, vessel_faults, demand_faults, unit_faults, end_faults, first_broken};
-    ghost use Rattle.replay_core.specs.Margin.{margin_of};
+    ghost use Rattle.replay_core.specs.Counts.{charges_of, minutes_of, last_end_of};
+    ghost use Rattle.replay_core.specs.Rules.{keeps_order, waits_for_others, keeps_vessel_order, is_emptied, meets_demand, meets_charges};
+    ghost use Rattle.replay_core.specs.Legal.{CanRun, IsLegalIn, order_faults, place_faults, op_faults, faults_at_places, end_faults, first_broken_in};
+    ghost use Rattle.replay_core.specs.Margin.{earned_of, wait_of, demurrage_of, margin_of};
+    ghost use Rattle.replay_core.specs.inside.Earnings.{EarnsWithin, MOST_PAID};
+    ghost use Rattle.replay_core.specs.inside.EndRules.{holds_at, number_of};
+    ghost use Rattle.replay_core.specs.inside.Levels.{HoldsWithin};
+    ghost use Rattle.replay_core.specs.inside.Tally.{tally_of};
+    ghost use Rattle.replay_core.specs.inside.Latest.{start_of, end_of};
 
-    /// A replay in which nothing has run. It takes room for a thousand operations at once.
+    /// A replay of a plan in which nothing has run. It takes room at once for as many operations as a plan may have.
     pub fn new(alloc: Global, plant: &Plant) -> Result<Replay<'_>, AllocError>
-        ensures { IfOk result (λ replay. replay ≡ record { parts = plant.now; steps = [] }) }
+        ensures { IfOk result (λ replay. replay ≡ record { parts = plant.now; order = ByStart; steps = [] }) }
+    {
+        Replay::in_order(alloc, plant, Order::ByStart)
+    }
+
+    /// Likewise of operations that are to keep that order.
+    pub fn in_order(alloc: Global, plant: &Plant, order: Order) -> Result<Replay<'_>, AllocError>
+        ensures { IfOk result (λ replay. replay ≡ record { parts = plant.now; order = order; steps = [] }) }
     {
         Ok(Replay {
             plant,
-            steps: Vec::with_capacity(alloc, STEPS)?,
+            order,
+            steps: Vec::with_capacity(alloc, MOST_STEPS as usize)?,
             held: first_state(alloc, plant)?,
             tallies: first_tallies(alloc, plant)?,
-            ends: first_ends(alloc, plant)?,
+            starts: no_minutes(alloc, plant)?,
+            ends: no_minutes(alloc, plant)?,
             margins: crude_margins(alloc, plant)?,
-            last_vessel: 0,
-            margin: 0,
+            earned: 0,
         })
+    }
+
+    fn order(&self) -> Order
+        ensures { result ≡ self.now.order }
+    {
+        self.order
     }
 
     fn plant(&self) -> &Plant
@@ -83,8 +102,8 @@ impl Replay<'_> {
     /// The operations that have run.
     fn steps(&self) -> &[Timed]
         ensures value { result.now ≡ self.now.steps }
-        ensures few { length self.now.steps ≤ 1000 }
-        ensures accepted { IsAccepted self.now.parts self.now.steps }
+        ensures few { length self.now.steps ≤ MOST_STEPS }
+        ensures can_run { CanRun self.now.parts self.now.order self.now.steps }
     {
         self.steps.as_slice()
     }
@@ -105,18 +124,18 @@ impl Replay<'_> {
         self.tallies.as_slice()
     }
 
-    /// When each operation ended last.
-    fn ends(&self) -> &[u32]
-        ensures { AreEnds self.now.parts self.now.steps result.now }
+    /// When each operation started last.
+    fn starts(&self) -> &[u32]
+        ensures { AreLatest start_of self.now.parts self.now.steps result.now }
     {
-        self.ends.as_slice()
+        self.starts.as_slice()
     }
 
-    /// The vessel latest in the list of those that were unloaded.
-    fn last_vessel(&self) -> u8
-        ensures { result ≡ last_vessel_of self.now.parts self.now.steps }
+    /// When each operation ended last.
+    fn ends(&self) -> &[u32]
+        ensures { AreLatest end_of self.now.parts self.now.steps result.now }
     {
-        self.last_vessel
+        self.ends.as_slice()
     }
 
     /// What the place has got and given.
@@ -136,7 +155,7 @@ impl Replay<'_> {
     }
 
     /// How many charges the unit has got.
-    #[tactic(auto, unfolding(crate::specs::Tally::tally_of))]
+    #[tactic(auto, unfolding(crate::specs::inside::Tally::tally_of))]
     pub fn charges(&self, p: u8) -> u32
         requires { p < place_count_of self.now.parts }
         ensures { result ≡ charges_of self.now.parts self.now.steps p }
@@ -145,7 +164,7 @@ impl Replay<'_> {
     }
 
     /// For how many minutes in all the unit was charged.
-    #[tactic(auto, unfolding(crate::specs::Tally::tally_of))]
+    #[tactic(auto, unfolding(crate::specs::inside::Tally::tally_of))]
     pub fn minutes(&self, p: u8) -> u64
         requires { p < place_count_of self.now.parts }
         ensures { result ≡ minutes_of self.now.parts self.now.steps p }
@@ -153,12 +172,38 @@ impl Replay<'_> {
         self.tally(p).minutes
     }
 
+    /// The greatest end of the unloadings of the vessel so far, in minutes, and 0 where there is none.
+    #[tactic(auto, unfolding(crate::specs::inside::Tally::tally_of))]
+    pub fn last_end(&self, p: u8) -> u32
+        requires { p < place_count_of self.now.parts }
+        ensures { result ≡ last_end_of self.now.parts self.now.steps p }
+    {
+        self.tally(p).last_end
+    }
+
     /// The number that the next operation has in the plan.
     fn next_number(&self) -> u32
         ensures value { result ≡ length self.now.steps + 1 }
-        ensures most { result ≤ 1001 }
+        ensures most { result ≤ MOST_STEPS + 1 }
     {
         self.steps().len() as u32 + 1
+    }
+
+    fn keeps_order(&self, t: Timed) -> bool
+        requires { t.op < op_count_of self.now.parts }
+        ensures { result ≡ keeps_order self.now.parts self.now.order self.now.steps t }
+    {
+        let steps = self.steps();
+        match self.order() {
+            Order::ByStart => last_start(steps) <= t.start,
+            Order::BySlot => none_is_later(
+                self.plant(),
+                Relation::Ordered,
+                t.op,
+                self.starts(),
+                t.start,
+            ),
+        }
     }
 
     fn waits_for_others(&self, t: Timed) -> bool
@@ -166,27 +211,27 @@ impl Replay<'_> {
         ensures { result ≡ waits_for_others self.now.parts self.now.steps t }
     {
         let _ = self.steps();
-        have_ended(self.plant(), self.ends(), t)
+        none_is_later(self.plant(), Relation::AtOnce, t.op, self.ends(), t.start)
     }
 
-    #[tactic(auto, using(crate::proofs::OrderLaws::order_by_last_vessel))]
     fn keeps_vessel_order(&self, t: Timed) -> bool
         requires { t.op < op_count_of self.now.parts }
         ensures { result ≡ keeps_vessel_order self.now.parts self.now.steps t }
     {
-        let op = self.plant().op(t.op);
-        !is_unload(op.kind) || self.last_vessel() <= op.from
+        let _ = self.steps();
+        none_is_later(self.plant(), Relation::LaterVessel, t.op, self.ends(), 0)
     }
 
-    /// The rule on the order of starts, where the operation breaks it.
-    #[tactic(auto, unfolding(crate::specs::Legal::order_faults, crate::specs::Rules::starts_in_order))]
+    /// The rule on the order, where the operation breaks it.
+    #[tactic(auto, unfolding(crate::specs::Legal::order_faults))]
     fn check_order(&self, t: Timed, at: u32) -> Result<(), Broken>
-        ensures { result_err result ≡ first_of (order_faults self.now.steps t at) }
+        requires { t.op < op_count_of self.now.parts }
+        ensures { result_err result ≡ first_of (order_faults self.now.parts self.now.order self.now.steps t at) }
     {
-        expect_rule(last_start(self.steps()) <= t.start, 6, at)
+        expect_rule(self.keeps_order(t), 6, at)
     }
 
-    /// The first rule on jetties, places and crudes that the operation breaks.
+    /// The first rule on berths, places and crudes that the operation breaks.
     #[tactic(auto, using(item_lists::proofs::FaultLaws::first_fault), unfolding(crate::specs::Legal::place_faults))]
     fn check_places(&self, t: Timed, at: u32) -> Result<(), Broken>
         requires known { t.op < op_count_of self.now.parts }
@@ -206,7 +251,8 @@ impl Replay<'_> {
     /// The first rule that the operation breaks.
     #[tactic(auto, using(item_lists::proofs::FaultLaws::first_fault), unfolding(crate::specs::Legal::op_faults))]
     fn check(&self, t: Timed) -> Result<(), Broken>
-        ensures { result_err result ≡ first_of (op_faults self.now.parts self.now.steps t (length self.now.steps + 1)) }
+        ensures { result_err result
+            ≡ first_of (op_faults self.now.parts self.now.order self.now.steps t (length self.now.steps + 1)) }
     {
         let at = self.next_number();
         check_alone(self.plant(), t, at)?;
@@ -216,20 +262,20 @@ impl Replay<'_> {
 
     /// Lets the operation run, which breaks no rule, and gives what it draws.
     fn accept(&mut self, t: Timed) -> Amounts
-        requires few { length self.old.steps < 1000 }
-        requires keeps { op_faults self.old.parts self.old.steps t (length self.old.steps + 1) ≡ [] }
+        requires few { length self.old.steps < MOST_STEPS }
+        requires keeps { op_faults self.old.parts self.old.order self.old.steps t (length self.old.steps + 1) ≡ [] }
         ensures draw { result ≡ draw_at self.old.parts self.old.steps t }
         ensures volume { sum result ≡ t.volume }
         ensures after { self.new ≡ record self.old { steps = self.old.steps ++ t ∷ [] } }
-        ensures accepted { IsAccepted self.new.parts self.new.steps }
+        ensures can_run { CanRun self.new.parts self.new.order self.new.steps }
     {
         self.plant.sound();
         let op = self.plant.op(t.op);
         let drawn = move_volume(self.held.as_mut_slice(), op.from, op.to, t.volume.into());
         count(self.tallies.as_mut_slice(), op, t);
-        note_end(self.ends.as_mut_slice(), t);
-        self.last_vessel = last_vessel(self.last_vessel, op);
-        self.margin += earned(op, &drawn, self.margins.as_slice());
+        note(self.starts.as_mut_slice(), t.op, t.start);
+        note(self.ends.as_mut_slice(), t.op, t.end);
+        self.earned += earned(op, &drawn, self.margins.as_slice());
         self.steps.push_reserved(t);
         drawn
     }
@@ -237,13 +283,14 @@ impl Replay<'_> {
     /// Lets the operation run, and gives what it draws; or names the first rule that it breaks, and
     /// then nothing is changed.
     pub fn step(&mut self, t: Timed) -> Result<Amounts, Broken>
-        requires { length self.old.steps < 1000 }
-        ensures broken { result_err result ≡ first_of (op_faults self.old.parts self.old.steps t (length self.old.steps + 1)) }
+        requires { length self.old.steps < MOST_STEPS }
+        ensures broken { result_err result
+            ≡ first_of (op_faults self.old.parts self.old.order self.old.steps t (length self.old.steps + 1)) }
         ensures draw { IfOk result (λ drawn. drawn ≡ draw_at self.old.parts self.old.steps t) }
         ensures volume { IfOk result (λ drawn. sum drawn ≡ t.volume) }
         ensures ok { OnOk result (self.new ≡ record self.old { steps = self.old.steps ++ t ∷ [] }) }
         ensures err { OnErr result (self.new ≡ self.old) }
-        ensures accepted { IsAccepted self.new.parts self.new.steps }
+        ensures can_run { CanRun self.new.parts self.new.order self.new.steps }
     {
         let _ = self.steps();
         self.check(t)?;
@@ -258,7 +305,7 @@ impl Replay<'_> {
         !is_vessel(self.plant().place(p).kind) || self.held(p).total() == 0
     }
 
-    #[tactic(auto, unfolding(crate::specs::Rules::meets_demand, crate::specs::Tally::tally_of))]
+    #[tactic(auto, unfolding(crate::specs::Rules::meets_demand, crate::specs::inside::Tally::tally_of))]
     fn meets_demand(&self, p: u8) -> bool
         requires { p < place_count_of self.now.parts }
         ensures { result ≡ meets_demand self.now.parts self.now.steps p (place_of self.now.parts p) }
@@ -268,7 +315,7 @@ impl Replay<'_> {
         !is_charging(place.kind) || is_inside(low.into(), high.into(), self.tally(p).charged)
     }
 
-    #[tactic(auto, unfolding(crate::specs::Rules::meets_charges, crate::specs::Tally::tally_of))]
+    #[tactic(auto, unfolding(crate::specs::Rules::meets_charges, crate::specs::inside::Tally::tally_of))]
     fn meets_charges(&self, p: u8) -> bool
         requires { p < place_count_of self.now.parts }
         ensures { result ≡ meets_charges self.now.parts self.now.steps p (place_of self.now.parts p) }
@@ -280,69 +327,96 @@ impl Replay<'_> {
         !is_unit(place.kind) || whole && is_inside(low.into(), high.into(), tally.charges.into())
     }
 
-    /// The first vessel that is not empty.
-    fn check_vessels(&self) -> Result<(), Broken>
-        ensures { result_err result ≡ first_of (vessel_faults self.now.parts self.now.steps) }
+    fn holds_at(&self, rule: EndRule, p: u8) -> bool
+        requires { p < place_count_of self.now.parts }
+        ensures { result ≡ holds_at self.now.parts self.now.steps rule p (place_of self.now.parts p) }
     {
-        for p in 0..self.plant().place_count() {
-            expect_rule(self.is_emptied(p), 12, p.into())?;
+        match rule {
+            EndRule::Emptied => self.is_emptied(p),
+            EndRule::Demand => self.meets_demand(p),
+            EndRule::Charges => self.meets_charges(p),
         }
-        Ok(())
     }
 
-    /// The first charging tank from which not what is demanded was charged.
-    fn check_demands(&self) -> Result<(), Broken>
-        ensures { result_err result ≡ first_of (demand_faults self.now.parts self.now.steps) }
+    /// The first place at which the rule does not hold.
+    fn check_each(&self, rule: EndRule) -> Result<(), Broken>
+        ensures { result_err result
+            ≡ first_of (faults_at_places self.now.parts (number_of rule)
+            (holds_at self.now.parts self.now.steps rule)) }
     {
         for p in 0..self.plant().place_count() {
-            expect_rule(self.meets_demand(p), 13, p.into())?;
-        }
-        Ok(())
-    }
-
-    /// The first unit that was not charged for as long or as often as it takes.
-    fn check_units(&self) -> Result<(), Broken>
-        ensures { result_err result ≡ first_of (unit_faults self.now.parts self.now.steps) }
-    {
-        for p in 0..self.plant().place_count() {
-            expect_rule(self.meets_charges(p), 14, p.into())?;
+            expect_rule(self.holds_at(rule, p), rule.number(), p.into())?;
         }
         Ok(())
     }
 
     /// The first rule that stands broken where nothing more runs.
-    #[tactic(auto, using(item_lists::proofs::FaultLaws::first_fault), unfolding(crate::specs::Legal::end_faults))]
+    #[tactic(auto, using(item_lists::proofs::FaultLaws::first_fault), unfolding(crate::specs::Legal::end_faults, crate::specs::Legal::vessel_faults, crate::specs::Legal::demand_faults, crate::specs::Legal::unit_faults))]
     fn check_end(&self) -> Result<(), Broken>
         ensures { result_err result ≡ first_of (end_faults self.now.parts self.now.steps) }
     {
-        self.check_vessels()?;
-        self.check_demands()?;
-        self.check_units()
+        self.check_each(EndRule::Emptied)?;
+        self.check_each(EndRule::Demand)?;
+        self.check_each(EndRule::Charges)
     }
 
-    /// The first rule that the operations that have run break as a plan.
+    /// The first rule that the operations that have run break where nothing more runs.
     fn check_legal(&self) -> Result<(), Broken>
         ensures at_end { result_err result ≡ first_of (end_faults self.now.parts self.now.steps) }
-        ensures whole { result_err result ≡ first_broken self.now.parts self.now.steps }
+        ensures whole { result_err result ≡ first_broken_in self.now.parts self.now.order self.now.steps }
     {
         let _ = self.steps();
         self.check_end()
     }
 
-    /// What the operations that have run earn.
+    /// What the charges that have run earn.
+    fn earned(&self) -> i64
+        ensures value { result ≡ earned_of self.now.parts self.now.steps }
+        ensures fits { EarnsWithin MOST_STEPS result }
+    {
+        self.plant.sound();
+        self.earned
+    }
+
+    /// What the vessel pays for its waiting; nothing where the place is none, or where it was not unloaded.
+    fn paid(&self, p: u8) -> u64
+        requires { p < place_count_of self.now.parts }
+        ensures value { result ≡ (place_of self.now.parts p).demurrage * wait_of self.now.parts self.now.steps p }
+        ensures most { result ≤ MOST_PAID }
+    {
+        let place = self.plant().place(p);
+        let wait = self.last_end(p).saturating_sub(place.arrival);
+        u64::from(place.demurrage) * u64::from(wait)
+    }
+
+    /// What the vessels that have been unloaded pay.
+    #[tactic(auto, unfolding(crate::specs::Margin::demurrage_of))]
+    fn demurrage(&self) -> u64
+        ensures value { result ≡ demurrage_of self.now.parts self.now.steps }
+        ensures most { result ≤ MOST_PLACES * MOST_PAID }
+    {
+        let mut demurrage = 0;
+        for p in 0..self.plant().place_count() {
+            demurrage += self.paid(p);
+        }
+        demurrage
+    }
+
+    /// The margin of the operations that have run.
+    #[tactic(auto, unfolding(crate::specs::Margin::margin_of))]
     fn margin(&self) -> i64
         ensures { result ≡ margin_of self.now.parts self.now.steps }
     {
-        self.margin
+        self.earned() - self.demurrage() as i64
     }
 
-    /// The margin of the operations that have run, where they are a legal plan; or the first rule that
-    /// the plan breaks, which is one of those that are asked at its end.
+    /// The margin of the operations that have run, where they are legal as they stand; or the first rule that
+    /// they break, which is one of those that are asked at the end.
     pub fn finish(&self) -> Result<i64, Broken>
-        ensures broken { result_err result ≡ first_broken self.now.parts self.now.steps }
+        ensures broken { result_err result ≡ first_broken_in self.now.parts self.now.order self.now.steps }
         ensures at_end { result_err result ≡ first_of (end_faults self.now.parts self.now.steps) }
         ensures margin { IfOk result (λ margin. margin ≡ margin_of self.now.parts self.now.steps) }
-        ensures legal { OnOk result (IsLegal self.now.parts self.now.steps) }
+        ensures legal { OnOk result (IsLegalIn self.now.parts self.now.order self.now.steps) }
     {
         self.check_legal()?;
         Ok(self.margin())
@@ -355,12 +429,13 @@ impl Replay<'_> {
         let Replay {
             held,
             plant: _,
+            order: _,
             steps: _,
             tallies: _,
+            starts: _,
             ends: _,
             margins: _,
-            last_vessel: _,
-            margin: _,
+            earned: _,
         } = self;
         AmountList::from_vec(held)
     }
@@ -372,12 +447,14 @@ fn first_tallies(alloc: Global, plant: &Plant) -> Result<Vec<Tally>, AllocError>
     vec![in alloc; Tally {
         charges: 0,
         minutes: 0,
-        charged: 0
+        charged: 0,
+        last_end: 0
     }; plant.place_count() as usize]
 }
 
-fn first_ends(alloc: Global, plant: &Plant) -> Result<Vec<u32>, AllocError>
-    ensures { IfOk result (λ ends. AreEnds plant.now [] ends.items) }
+/// A table of minutes in which no operation has run.
+fn no_minutes(alloc: Global, plant: &Plant) -> Result<Vec<u32>, AllocError>
+    ensures { IfOk result (λ table. (minute : Timed → ℕ) → AreLatest minute plant.now [] table.items) }
 {
     vec![in alloc; 0; plant.op_count() as usize]
 }
@@ -393,23 +470,11 @@ fn crude_margins(alloc: Global, plant: &Plant) -> Result<Vec<i64>, AllocError>
     Ok(margins)
 }
 
-/// The vessel latest in the list, of the last one and the one that the operation unloads.
-#[tactic(auto)]
-fn last_vessel(last: u8, op: Op) -> u8
-    ensures { result ≡ (if is_unload op.kind then max last op.from else last) }
-{
-    if is_unload(op.kind) {
-        last.max(op.from)
-    } else {
-        last
-    }
-}
-
 /// What the operation earns: a charge by the margins of the crudes that it draws.
 fn earned(op: Op, drawn: &Amounts, margins: &[i64]) -> i64
     requires crudes { length margins.now ≡ length drawn.now }
-    requires few { sum drawn.now ≤ 10000000 }
-    requires small { AreSmall 1000000 margins.now }
+    requires few { sum drawn.now ≤ MOST_VOLUME }
+    requires small { AreSmall MOST_MARGIN margins.now }
     ensures { result ≡ (if is_charge op.kind then weighted_of drawn.now margins.now else pos 0) }
 {
     match op.kind {

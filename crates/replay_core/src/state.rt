@@ -7,7 +7,7 @@ ghost use Rattle.plant_model.specs.Sound.{HoldsCrude};
 ghost use Rattle.plant_model.specs.Relations.{is_unload};
 ghost use Rattle.replay_core.specs.Rules.{is_vessel, is_charging, is_unit};
 ghost use Rattle.replay_core.specs.State.{held_of, initial_state, moved};
-ghost use Rattle.replay_core.specs.Levels.{CanMove};
+ghost use Rattle.replay_core.specs.inside.Levels.{CanMove};
 
 use crude_amounts::Amounts;
 use plant_model::{OpKind, PlaceKind, Plant};

@@ -75,7 +75,8 @@ fn meets_each_limit(plant: &Plant, v: u8, volume: u32, drawn: &Amounts) -> bool
     requires charge { (op_of plant.now v).kind ≡ Charge }
     requires crudes { length drawn.now ≡ crude_count_of plant.now }
     requires total { sum drawn.now ≤ 2 ^ 32 }
-    ensures { result ≡ list_all (meets_limit plant.now v volume drawn.now) (range_with_len 0 (property_count_of plant.now)) }
+    ensures { result ≡ list_all (meets_limit plant.now v volume drawn.now)
+        (range_with_len 0 (property_count_of plant.now)) }
 {
     (0..plant.property_count()).all(|k| meets_limit(plant, v, volume, drawn, k))
 }

@@ -1,14 +1,16 @@
 //! Sample plants made of parts, for the tests of the crates above.
 //!
-//! So far there is one kind, [`OneCharge`]: one charging tank, one unit, and the charge between them. A test
-//! takes [`one_charge`] as it is, or names what is to be otherwise.
+//! There are two kinds: [`OneCharge`], one charging tank, one unit, and the charge between them, where a test takes
+//! [`one_charge`] as it is or names what is to be otherwise; and [`unloading`], vessels that are unloaded, each into a
+//! tank of its own.
 //!
 //! To the crates above this crate promises nothing: no call has a clause, so that the proofs of tests do not
 //! read the numbers, and no crate calls it outside its tests.
 #![tactic(auto)]
 
 use item_lists::{Copies, Items};
-use plant_model::{CrudePart, Name, OperationPart, Pair, Parts, TankPart, UnitPart};
+use limits::{MOST_SLOTS, MOST_VOLUME};
+use plant_model::{CrudePart, Name, OperationPart, Pair, Parts, TankPart, UnitPart, VesselPart};
 use std::alloc::{AllocError, Global};
 
 /// What tells one plant with a single charge from another.
@@ -27,14 +29,17 @@ pub struct OneCharge {
     pub charges: Pair,
 }
 
-/// The plant whose crude earns 3 a volume unit, of which at most two flow in a minute. Its unit takes up to 40
-/// charges and may stand idle.
+/// The plant whose crude earns 3 a volume unit, of which at most two flow in a minute. Its unit takes as
+/// many charges as a search has slots, and may stand idle.
 pub fn one_charge() -> OneCharge {
     OneCharge {
         margin: 3,
         rate: Pair { lo: 0, hi: 2880 },
         continuous: false,
-        charges: Pair { lo: 0, hi: 40 },
+        charges: Pair {
+            lo: 0,
+            hi: MOST_SLOTS as i64,
+        },
     }
 }
 
@@ -50,7 +55,7 @@ fn tank(alloc: Global) -> Result<TankPart, AllocError> {
         amounts: Copies::new(alloc, &[4])?,
         demand: Pair {
             lo: 0,
-            hi: 10_000_000,
+            hi: MOST_VOLUME as i64,
         },
     })
 }
@@ -97,4 +102,82 @@ impl OneCharge {
             limits: Items::new(alloc),
         })
     }
+}
+
+/// A vessel of a plant whose vessels are unloaded.
+#[derive(Clone, Copy)]
+pub struct Berthed {
+    /// In minutes.
+    pub arrival: i64,
+    pub berth: i64,
+    /// What it pays for a minute.
+    pub demurrage: i64,
+}
+
+/// The parts of a plant in which each vessel brings 4 volume units of crude `A`: `u1` may move 1 to 4 of the first
+/// one's
+/// from its arrival on to tank `S1`, at most two in a minute, `u2` those of the second one to `S2`, and so on to the
+/// ninth.
+pub fn unloading(alloc: Global, horizon: i64, berthed: &[Berthed]) -> Result<Parts, AllocError> {
+    let mut parts = Parts {
+        horizon,
+        properties: Items::new(alloc),
+        crudes: Items::new(alloc),
+        vessels: Items::new(alloc),
+        storage: Items::new(alloc),
+        charging: Items::new(alloc),
+        units: Items::new(alloc),
+        operations: Items::new(alloc),
+    };
+    let crude = one_charge().crude(alloc)?;
+    parts.crudes.push(crude).map_err(|_| AllocError)?;
+    let mut digit = b'1';
+    for vessel in berthed {
+        add_vessel(alloc, &mut parts, *vessel, digit)?;
+        digit = digit.saturating_add(1);
+    }
+    Ok(parts)
+}
+
+/// The name of a letter and a digit.
+fn numbered(alloc: Global, letter: u8, digit: u8) -> Result<Name, AllocError> {
+    Copies::new(alloc, &[letter, digit])
+}
+
+/// Adds a vessel, its tank and its operation, which have the digit in their names.
+fn add_vessel(
+    alloc: Global,
+    parts: &mut Parts,
+    berthed: Berthed,
+    digit: u8,
+) -> Result<(), AllocError> {
+    let vessel = VesselPart {
+        name: numbered(alloc, b'V', digit)?,
+        arrival: berthed.arrival,
+        amounts: Copies::new(alloc, &[4])?,
+        berth: berthed.berth,
+        demurrage: berthed.demurrage,
+    };
+    parts.vessels.push(vessel).map_err(|_| AllocError)?;
+    let tank = TankPart {
+        name: numbered(alloc, b'S', digit)?,
+        min: 0,
+        max: 10,
+        amounts: Copies::new(alloc, &[0])?,
+        demand: Pair { lo: 0, hi: 0 },
+    };
+    parts.storage.push(tank).map_err(|_| AllocError)?;
+    let operation = OperationPart {
+        name: numbered(alloc, b'u', digit)?,
+        from: numbered(alloc, b'V', digit)?,
+        to: numbered(alloc, b'S', digit)?,
+        rate: Pair { lo: 0, hi: 2880 },
+        volume: Pair { lo: 1, hi: 4 },
+        window: Pair {
+            lo: berthed.arrival,
+            hi: parts.horizon,
+        },
+        limits: Items::new(alloc),
+    };
+    parts.operations.push(operation).map_err(|_| AllocError)
 }

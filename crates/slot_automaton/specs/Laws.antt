@@ -24,4 +24,5 @@ NormalGrows =
 -- one more letter takes the blocked set to the next one
 abbrev pub BlockedGrow : Type 0
 BlockedGrow =
-    (masks word : List ℕ) (x : ℕ) → blocked_after masks (word ++ x ∷ []) ≡ next_blocked masks (blocked_after masks word) x
+    (masks word : List ℕ) (x : ℕ) → blocked_after masks (word ++ x ∷ [])
+    ≡ next_blocked masks (blocked_after masks word) x

@@ -4,6 +4,7 @@ use Rattle.std.proofs.Math.Nat.{pow-le-pow_right}
 use Rattle.std.proofs.lemmas.Nat.{pow_pos}
 use Rattle.std.proofs.lemmas.Nat.Bits.{bit_at_cat_low, bit_at_cat_high, bit_at_ones}
 use Rattle.std.proofs.lemmas.List.Elements.{recursion_from_All}
+use Rattle.limits.specs.declared.TheConstants.{MOST_OPERATIONS}
 use Rattle.slot_box.specs.Boxes.{IsPoint, points_of}
 use Rattle.slot_box.specs.Laws.{EntriesAreLive, OnlyPointsArePoints, RootSlotsMayIdle, RootSlotsMayRun}
 use Rattle.slot_box.specs.Slots.{IsSlot}
@@ -22,9 +23,9 @@ only_points_are_points slots box one =
 
 -- ---- the entries of a root box
 
-few_operations : (ops : ℕ) → ops ≤ 48 → 2 ^ ops - 1 < 2 ^ 63
+few_operations : (ops : ℕ) → ops ≤ MOST_OPERATIONS → 2 ^ ops - 1 < 2 ^ 63
 few_operations ops few =
-    let low : 2 ^ ops ≤ 2 ^ 48 = pow-le-pow_right (omega arith) few in let some = pow_pos ops in omega arith
+    let low : 2 ^ ops ≤ 2 ^ MOST_OPERATIONS = pow-le-pow_right (omega arith) few in let some = pow_pos ops in omega arith
 
 pub root_slots_may_idle : RootSlotsMayIdle
 root_slots_may_idle ops volume horizon few =

@@ -143,7 +143,8 @@ pairs {X} {Y} P Q m n first second =
         subst (λ x. first.number_of p.0 * n + second.number_of p.1 < x) (mul_comm n m)
         (mul-add-lt (first.number_of p.0) n (second.number_of p.1) m (first.below _ is.0) (second.below _ is.1))
 
-    back : (p : X × Y) → P p.0 × Q p.1 → (first.thing_of ((first.number_of p.0 * n + second.number_of p.1) / n), second.thing_of ((first.number_of p.0 * n + second.number_of p.1) % n)) ≡ p
+    back : (p : X × Y) → P p.0 × Q p.1
+        → (first.thing_of ((first.number_of p.0 * n + second.number_of p.1) / n), second.thing_of ((first.number_of p.0 * n + second.number_of p.1) % n)) ≡ p
     back p is =
         let small = second.below _ is.1 in
         let quotient : first.thing_of ((first.number_of p.0 * n + second.number_of p.1) / n) ≡ p.0 =
@@ -157,7 +158,8 @@ pairs {X} {Y} P Q m n first second =
         ap₂ (λ x y. x * n + y) (first.number_of-thing_of _ (row k small)) (second.number_of-thing_of _ (column k small)) ∙ div-add-mod' k n
 
 -- the same things under other names
-pub renamed : {X Y : Type 0} (P : X → Type 0) (Q : Y → Type 0) (n : ℕ) (f : X → Y) (g : Y → X) → IsCountOf P n → ((x : X) → P x → Q (f x) × (g (f x) ≡ x)) → ((y : Y) → Q y → P (g y) × (f (g y) ≡ y)) → IsCountOf Q n
+pub renamed : {X Y : Type 0} (P : X → Type 0) (Q : Y → Type 0) (n : ℕ) (f : X → Y) (g : Y → X) → IsCountOf P n → ((x : X) → P x → Q (f x) × (g (f x) ≡ x))
+    → ((y : Y) → Q y → P (g y) × (f (g y) ≡ y)) → IsCountOf Q n
 renamed P Q n f g counted to from =
     record {
       number_of = λ y. counted.number_of (g y);

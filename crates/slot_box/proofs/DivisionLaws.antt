@@ -70,11 +70,14 @@ divides_first s slot several =
     ] in
     and_from _ _ (lt-ltb _ _ (rw first (omega arith))) (lt-ltb _ _ less)
   where
-    power : bit_and (live_of s) (2 ^ trailing_zeros w64 (live_of s)) ≡ 2 ^ trailing_zeros w64 (live_of s) → live_of s ≤ bit_and (live_of s) (2 ^ trailing_zeros w64 (live_of s)) → bit_and (live_of s) (2 ^ trailing_zeros w64 (live_of s)) ≤ live_of s → live_of s ≡ 2 ^ trailing_zeros w64 (live_of s)
+    power : bit_and (live_of s) (2 ^ trailing_zeros w64 (live_of s)) ≡ 2 ^ trailing_zeros w64 (live_of s)
+        → live_of s ≤ bit_and (live_of s) (2 ^ trailing_zeros w64 (live_of s)) → bit_and (live_of s) (2 ^ trailing_zeros w64 (live_of s)) ≤ live_of s
+        → live_of s ≡ 2 ^ trailing_zeros w64 (live_of s)
     power there more most = omega arith
 
 -- a split that is found is lawful
-pub lawful_found : (slots : List Slot) (found : Option Split) → IsBox slots → MatchOption found (points_of slots ≡ 1) (λ split. is_lawful slots split ≡ true) → IfSome found (IsLawfulSplit slots)
+pub lawful_found : (slots : List Slot) (found : Option Split) → IsBox slots → MatchOption found (points_of slots ≡ 1) (λ split. is_lawful slots split ≡ true)
+    → IfSome found (IsLawfulSplit slots)
 lawful_found slots None box is = tt
 lawful_found slots (Some split) box is = IsLawfulSplit-from_test slots split box (divided_from slots split is)
 

@@ -285,7 +285,8 @@ IsSlot-right s (End x) slot is =
 
 -- ---- the halves lie within what the slot lies within
 
-pub IsSlotOfRoot-left : (ops volume horizon : ℕ) (s : Slot) (kind : SplitKind) → divides s kind ≡ true → IsSlotOfRoot ops volume horizon s → IsSlotOfRoot ops volume horizon (left_half s kind)
+pub IsSlotOfRoot-left : (ops volume horizon : ℕ) (s : Slot) (kind : SplitKind) → divides s kind ≡ true → IsSlotOfRoot ops volume horizon s
+    → IsSlotOfRoot ops volume horizon (left_half s kind)
 IsSlotOfRoot-left ops volume horizon s (Ops m) is within =
     let low_less = and_le_l (s.ops % 2 ^ 63) m in
     let low = mod_and 63 s.ops m in
@@ -320,7 +321,8 @@ IsSlotOfRoot-left ops volume horizon s (End x) is within =
       end_end = omega (arith, cut, within.end_end);
     }
 
-pub IsSlotOfRoot-right : (ops volume horizon : ℕ) (s : Slot) (kind : SplitKind) → IsSlotOfRoot ops volume horizon s → IsSlotOfRoot ops volume horizon (right_half s kind)
+pub IsSlotOfRoot-right : (ops volume horizon : ℕ) (s : Slot) (kind : SplitKind) → IsSlotOfRoot ops volume horizon s
+    → IsSlotOfRoot ops volume horizon (right_half s kind)
 IsSlotOfRoot-right ops volume horizon s (Ops m) within =
     let low = mod_rest s.ops m in
     record {

@@ -1,12 +1,15 @@
 pub mod BoxLaws
 pub mod CountLaws
+pub mod DivisionLaws
 pub mod EntryLaws
 pub mod HalfLaws
+pub mod IdLaws
 pub mod LiveLaws
+pub mod NodeLaws
 pub mod OnlyLaws
 pub mod PointLaws
 pub mod SetLaws
+pub mod ShapeLaws
 pub mod SlotLaws
 pub mod SplitLaws
 pub mod TreeLaws
-pub mod DivisionLaws

@@ -65,7 +65,10 @@ IsFixedTo-from_fixed_of s op slot is =
           let power = power_from_ones (live_of s) (live_small s slot) (eqb-true _ _ parts.0) in
           let less = ltb-true (live_of s) (2 ^ 63) parts.1 in
           record {
-            operation = elim (cases_lt op 63) [ inl small ↦ small | inr large ↦ absurd (let more = pow-le-pow_right {n = 2} (omega arith) large in let same = power ∙ ap (λ k. 2 ^ k) found in omega arith) ];
+            operation = elim (cases_lt op 63) [
+              | inl small ↦ small
+              | inr large ↦ absurd (let more = pow-le-pow_right {n = 2} (omega arith) large in let same = power ∙ ap (λ k. 2 ^ k) found in omega arith)
+            ];
             alone = power ∙ ap (λ k. 2 ^ k) found;
           }
       | inr none ↦ absurd (let e = sym (cond-false _ (Some (trailing_zeros w64 (live_of s))) None none) ∙ is in cc)
@@ -105,6 +108,9 @@ live_of-from_IsLive s bit slot live =
           | inr large ↦
               elim (cases_eq bit 63) [
                 | inl same ↦ absurd (false≢true (sym none ∙ live.zeros same))
-                | inr other ↦ absurd (let above = bit_at_above s.ops 64 bit slot.set (omega arith) in let one = digit_from_set s.ops bit live.there in omega arith)
+                | inr other ↦
+                    let above = bit_at_above s.ops 64 bit slot.set (omega arith) in
+                    let one = digit_from_set s.ops bit live.there in
+                    absurd (omega arith)
               ]
         ]

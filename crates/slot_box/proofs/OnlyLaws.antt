@@ -35,7 +35,8 @@ least_run s op slot small live =
     }
 
 -- a slot that can be filled in one way only, by an operation, is fixed to it
-fixed_from_run : (s : Slot) (op start end volume : ℕ) → IsSlot s → LiesIn s (runs op start end volume) → ((e : Entry) → LiesIn s e → bit_of e ≡ op) → IsFixedTo s op
+fixed_from_run : (s : Slot) (op start end volume : ℕ) → IsSlot s → LiesIn s (runs op start end volume) → ((e : Entry) → LiesIn s e → bit_of e ≡ op)
+    → IsFixedTo s op
 fixed_from_run s op start end volume slot lies only =
     record {
       operation = lies.known;
@@ -91,7 +92,9 @@ IsPoint-only_point (s ∷ slots) each single =
     (only_entry_lies s each.0 factors.0, IsPoint-only_point slots each.1 factors.1)
 
 -- each point of a box runs the operation to which a slot is fixed
-pub fixed_runs : (slots : List Slot) (i : ℕ) (found : Option ℕ) → 1 ≤ i → i ≤ length slots → IsSlot (slot_at slots i) → found ≡ fixed_of (slot_at slots i) → IfSome found (λ op. (point : List Entry) → IsPoint slots point → bit_of (entry_at point i) ≡ op)
+pub fixed_runs : (slots : List Slot) (i : ℕ) (found : Option ℕ) → 1 ≤ i → i ≤ length slots → IsSlot (slot_at slots i) → found ≡ fixed_of (slot_at slots i)
+    → IfSome found (λ op. (point : List Entry) → IsPoint slots point → bit_of (entry_at point i) ≡ op)
 fixed_runs slots i None from there slot is = tt
 fixed_runs slots i (Some op) from there slot is =
-    λ point at. bit_of-fixed (slot_at slots i) op (entry_at point i) (IsFixedTo-from_fixed_of _ op slot (sym is)) (LiesIn-at slots (i - 1) point (omega arith) at)
+    λ point at. bit_of-fixed (slot_at slots i) op (entry_at point i) (IsFixedTo-from_fixed_of _ op slot (sym is))
+    (LiesIn-at slots (i - 1) point (omega arith) at)

@@ -57,8 +57,11 @@ HasPoint-from_box slots each =
 
 -- a count of one says that there is just one thing
 pub one_from_count : {X : Type 0} (P : X → Type 0) → IsCountOf P 1 → (x : X) × P x × ((y : X) → P y → y ≡ x)
-one_from_count P counted =
-    (counted.thing_of 0, counted.there 0 (omega arith), λ y is. let small = counted.below y is in sym (counted.thing_of-number_of y is) ∙ ap counted.thing_of (omega arith))
+one_from_count {X} P counted =
+    (counted.thing_of 0, counted.there 0 (omega arith), only)
+  where
+    only : (y : X) → P y → y ≡ counted.thing_of 0
+    only y is = let small = counted.below y is in sym (counted.thing_of-number_of y is) ∙ ap counted.thing_of (omega arith)
 
 pub count_from_one : {X : Type 0} (P : X → Type 0) (n : ℕ) → IsCountOf P n → (x : X) × P x × ((y : X) → P y → y ≡ x) → n ≡ 1
 count_from_one P n counted one =
@@ -75,26 +78,30 @@ count_from_one P n counted one =
 -- ---- a slot that is changed
 
 -- the changed box has the points whose entry there lies in the new slot
-pub IsPoint-set : (slots : List Slot) (j : ℕ) (s : Slot) (point : List Entry) → IsPoint slots point → LiesIn s (get_or point j idle) → IsPoint (set slots j s) point
+pub IsPoint-set : (slots : List Slot) (j : ℕ) (s : Slot) (point : List Entry) → IsPoint slots point → LiesIn s (get_or point j idle)
+    → IsPoint (set slots j s) point
 IsPoint-set [] j s point is lies = is
 IsPoint-set (x ∷ slots) j s [] is lies = absurd is
 IsPoint-set (x ∷ slots) zero s (e ∷ point) is lies = (lies, is.1)
 IsPoint-set (x ∷ slots) (suc j) s (e ∷ point) is lies = (is.0, IsPoint-set slots j s point is.1 lies)
 
-pub LiesIn-set : (slots : List Slot) (j : ℕ) (s : Slot) (point : List Entry) → j < length slots → IsPoint (set slots j s) point → LiesIn s (get_or point j idle)
+pub LiesIn-set : (slots : List Slot) (j : ℕ) (s : Slot) (point : List Entry) → j < length slots → IsPoint (set slots j s) point
+    → LiesIn s (get_or point j idle)
 LiesIn-set [] j s point inside is = absurd (omega arith)
 LiesIn-set (x ∷ slots) zero s [] inside is = absurd is
 LiesIn-set (x ∷ slots) (suc j) s [] inside is = absurd is
 LiesIn-set (x ∷ slots) zero s (e ∷ point) inside is = is.0
 LiesIn-set (x ∷ slots) (suc j) s (e ∷ point) inside is = LiesIn-set slots j s point (omega arith) is.1
 
-pub LiesIn-at : (slots : List Slot) (j : ℕ) (point : List Entry) → j < length slots → IsPoint slots point → LiesIn (get_or slots j no_slot) (get_or point j idle)
+pub LiesIn-at : (slots : List Slot) (j : ℕ) (point : List Entry) → j < length slots → IsPoint slots point
+    → LiesIn (get_or slots j no_slot) (get_or point j idle)
 LiesIn-at [] j point inside is = absurd (omega arith)
 LiesIn-at (x ∷ slots) j [] inside is = absurd is
 LiesIn-at (x ∷ slots) zero (e ∷ point) inside is = is.0
 LiesIn-at (x ∷ slots) (suc j) (e ∷ point) inside is = LiesIn-at slots j point (omega arith) is.1
 
-pub IsPoint-from_set : (slots : List Slot) (j : ℕ) (s : Slot) (point : List Entry) → j < length slots → IsPoint (set slots j s) point → LiesIn (get_or slots j no_slot) (get_or point j idle) → IsPoint slots point
+pub IsPoint-from_set : (slots : List Slot) (j : ℕ) (s : Slot) (point : List Entry) → j < length slots → IsPoint (set slots j s) point
+    → LiesIn (get_or slots j no_slot) (get_or point j idle) → IsPoint slots point
 IsPoint-from_set [] j s point inside is lies = absurd (omega arith)
 IsPoint-from_set (x ∷ slots) zero s [] inside is lies = absurd is
 IsPoint-from_set (x ∷ slots) (suc j) s [] inside is lies = absurd is
@@ -103,7 +110,8 @@ IsPoint-from_set (x ∷ slots) (suc j) s (e ∷ point) inside is lies =
     (is.0, IsPoint-from_set slots j s point (omega arith) is.1 lies)
 
 -- where two slots share the ways of one, so do the boxes share its points
-pub points_of-set : (slots : List Slot) (j : ℕ) (a b : Slot) → j < length slots → ways_of a + ways_of b ≡ ways_of (get_or slots j no_slot) → points_of (set slots j a) + points_of (set slots j b) ≡ points_of slots
+pub points_of-set : (slots : List Slot) (j : ℕ) (a b : Slot) → j < length slots → ways_of a + ways_of b ≡ ways_of (get_or slots j no_slot)
+    → points_of (set slots j a) + points_of (set slots j b) ≡ points_of slots
 points_of-set [] j a b inside sum = absurd (omega arith)
 points_of-set (x ∷ slots) zero a b inside sum = sym (add-mul (ways_of a) (ways_of b) (points_of slots)) ∙ ap (λ w. w * points_of slots) sum
 points_of-set (x ∷ slots) (suc j) a b inside sum =
@@ -115,7 +123,8 @@ points_of-push : (slots : List Slot) (s : Slot) → points_of (slots ++ s ∷ []
 points_of-push [] s = mul-one (ways_of s) ∙ sym (one-mul (ways_of s))
 points_of-push (x ∷ slots) s = ap (λ n. ways_of x * n) (points_of-push slots s) ∙ sym (mul_assoc (ways_of x) (points_of slots) (ways_of s))
 
-pub points_of-more : (slots : List Slot) (i : ℕ) (d : Slot) → i < length slots → points_of (take (i + 1) slots) ≡ points_of (take i slots) * ways_of (get_or slots i d)
+pub points_of-more : (slots : List Slot) (i : ℕ) (d : Slot) → i < length slots
+    → points_of (take (i + 1) slots) ≡ points_of (take i slots) * ways_of (get_or slots i d)
 points_of-more slots i d inside = ap points_of (take_more slots i d inside) ∙ points_of-push (take i slots) _
 
 -- a product that stops at a greatest number

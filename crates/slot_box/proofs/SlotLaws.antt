@@ -4,13 +4,15 @@ use Rattle.std.proofs.lemmas.Nat.{pow_pos, mul-le}
 use Rattle.std.proofs.Math.Nat.{pow-le-pow_right}
 use Rattle.std.proofs.Math.ListN.{length-replicate}
 use Rattle.std.proofs.lemmas.List.Elements.{All-replicate}
+use Rattle.limits.specs.declared.TheConstants.{MOST_HORIZON, MOST_OPERATIONS, MOST_SLOTS, MOST_VOLUME}
 use Rattle.slot_box.specs.Slots.{IsSlot}
 use Rattle.slot_box.specs.Boxes.{IsBox, IsSlotOfRoot, IsWithinRoot, root_of, whole_slot}
 
 -- a slot of a root box keeps the limits
-pub IsSlot-whole_slot : (ops volume horizon : ℕ) → ops ≤ 48 → volume ≤ 10000000 → horizon ≤ 100000 → IsSlot (whole_slot ops volume horizon)
+pub IsSlot-whole_slot : (ops volume horizon : ℕ) → ops ≤ MOST_OPERATIONS → volume ≤ MOST_VOLUME → horizon ≤ MOST_HORIZON
+    → IsSlot (whole_slot ops volume horizon)
 IsSlot-whole_slot ops volume horizon few small short =
-    let low : 2 ^ ops ≤ 2 ^ 48 = pow-le-pow_right (omega arith) few in
+    let low : 2 ^ ops ≤ 2 ^ MOST_OPERATIONS = pow-le-pow_right (omega arith) few in
     let some = pow_pos ops in
     record {
       volume = (omega arith, small);
@@ -22,7 +24,8 @@ IsSlot-whole_slot ops volume horizon few small short =
     }
 
 -- a root box is a box
-pub IsBox-root_of : (n ops volume horizon : ℕ) → 1 ≤ n → n ≤ 40 → ops ≤ 48 → volume ≤ 10000000 → horizon ≤ 100000 → IsBox (root_of n ops volume horizon)
+pub IsBox-root_of : (n ops volume horizon : ℕ) → 1 ≤ n → n ≤ MOST_SLOTS → ops ≤ MOST_OPERATIONS → volume ≤ MOST_VOLUME → horizon ≤ MOST_HORIZON
+    → IsBox (root_of n ops volume horizon)
 IsBox-root_of n ops volume horizon some most few small short =
     record {
       some_slots = simp length-replicate some;
@@ -39,8 +42,9 @@ product_fits a b c d ha hb hc hd =
     omega (arith, four)
 
 -- which lies within itself
-pub IsWithinRoot-root_of : (n ops volume horizon : ℕ) → ops ≤ 48 → IsWithinRoot ops volume horizon (root_of n ops volume horizon)
+pub IsWithinRoot-root_of : (n ops volume horizon : ℕ) → ops ≤ MOST_OPERATIONS → IsWithinRoot ops volume horizon (root_of n ops volume horizon)
 IsWithinRoot-root_of n ops volume horizon few =
-    let low : 2 ^ ops ≤ 2 ^ 48 = pow-le-pow_right (omega arith) few in
+    let low : 2 ^ ops ≤ 2 ^ MOST_OPERATIONS = pow-le-pow_right (omega arith) few in
     let some = pow_pos ops in
-    All-replicate (IsSlotOfRoot ops volume horizon) n (whole_slot ops volume horizon) (record { set = omega arith; volume_end = omega arith; start_end = omega arith; end_end = omega arith })
+    All-replicate (IsSlotOfRoot ops volume horizon) n (whole_slot ops volume horizon)
+    (record { set = omega arith; volume_end = omega arith; start_end = omega arith; end_end = omega arith })

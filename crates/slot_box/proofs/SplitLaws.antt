@@ -120,7 +120,8 @@ test_from_IsLawfulSplit slots split lawful =
     let from = lawful.from_one in
     let there = lawful.there in
     let inside : split.slot - 1 < length slots = omega arith in
-    let divided = divides_from (slot_at slots split.slot) split.kind (entry_at lawful.left.0 split.slot) (entry_at lawful.right.0 split.slot) (LiesIn-at slots _ _ inside lawful.left.1) lawful.left.2 (LiesIn-at slots _ _ inside lawful.right.1) lawful.right.2 in
+    let divided = divides_from (slot_at slots split.slot) split.kind (entry_at lawful.left.0 split.slot) (entry_at lawful.right.0 split.slot)
+    (LiesIn-at slots _ _ inside lawful.left.1) lawful.left.2 (LiesIn-at slots _ _ inside lawful.right.1) lawful.right.2 in
     and_from _ _ (and_from _ _ (le-leb _ _ from) (le-leb _ _ there)) divided
 
 pub divided_from_lawful : (slots : List Slot) (split : Split) → IsLawfulSplit slots split → Divided slots split

@@ -1,23 +1,28 @@
 -- What the leaves of a search tree have of its root.
 use Rattle.std.proofs.Common.{◌≡◌, ℕ, zero, suc, inl, inr, ◌+◌, ◌*◌, ◌<◌, ◌≤◌, Option, Some, None, List, length, refl, ap₂, ◌∙◌, subst, arith, length-append}
 use Rattle.std.specs.Prelude.{sum_by}
+use Rattle.std.proofs.Math.ListN.{length-set}
 use Rattle.std.proofs.lemmas.List.Elements.{recursion_from_All}
 use Rattle.std.proofs.lemmas.List.Sums.{sum_by-append}
 use Rattle.slot_box.specs.declared.node.Node.{Node}
 use Rattle.slot_box.specs.declared.node.Node.TheVariants.{Inner, Leaf}
 use Rattle.slot_box.specs.declared.slot.Slot.{Slot}
 use Rattle.slot_box.specs.declared.split.Split.{Split}
-use Rattle.slot_box.specs.Boxes.{IsPoint, IsBox, points_of}
+use Rattle.slot_box.specs.Boxes.{IsPoint, HasPoint, IsBox, points_of}
 use Rattle.slot_box.specs.Entries.{Entry}
+use Rattle.slot_box.specs.Laws.{IsBoxWithin, NodeBoxesStayWithin}
 use Rattle.slot_box.specs.Slots.{IsSlot}
 use Rattle.slot_box.specs.Splits.{IsLawfulSplit, IsPartition, left_of, right_of}
 use Rattle.slot_box.specs.Trees.{HasBox, root_box, left_part, right_part, IsNodeOf, IsSearchTree, Tree, leaf, fork, forks, leaf_boxes, IsLawfulTree, IsTreeAt, InLeaf}
-use Rattle.slot_box.proofs.PointLaws.{points_of-pos}
-use Rattle.slot_box.proofs.SplitLaws.{divided_from_lawful, IsBox-left, IsBox-right, IsPartition-parts, points_of-parts}
+use Rattle.slot_box.proofs.PointLaws.{points_of-pos, HasPoint-from_box}
+use Rattle.slot_box.proofs.SplitLaws.{divided_from_lawful, IsBox-left, IsBox-right, IsPartition-parts, IsWithinRoot-left, IsWithinRoot-right, points_of-parts}
 
 -- a box has a point
 pub points_of-box : (box : List Slot) → IsBox box → 0 < points_of box
 points_of-box box is = points_of-pos box (recursion_from_All IsSlot box is.each)
+
+pub HasPoint-box : (box : List Slot) → IsBox box → HasPoint box
+HasPoint-box box is = HasPoint-from_box box (recursion_from_All IsSlot box is.each)
 
 module _ (box : List Slot) (split : Split) (is : IsBox box) (lawful : IsLawfulSplit box split) where
   pub IsBox-left_of : IsBox (left_of box split)
@@ -70,16 +75,39 @@ leaves_at_most_points box (fork split left right) is lawful =
 
 -- ---- search trees over nodes
 
--- each node's box is a box
-pub IsBox-node : (root : List Slot) (node_at : ℕ → Option Node) → IsBox root → IsSearchTree root node_at → (id : ℕ) (box : List Slot) → HasBox root node_at id box → IsBox box
-IsBox-node root node_at is sound id box root_box = is
-IsBox-node root node_at is sound id box (left_part {id = parent} {split} {box = whole} has node) =
-    IsBox-left_of whole split (IsBox-node root node_at is sound parent whole has) (subst (IsNodeOf whole) node (sound parent whole has))
-IsBox-node root node_at is sound id box (right_part {id = parent} {split} {box = whole} has node) =
-    IsBox-right_of whole split (IsBox-node root node_at is sound parent whole has) (subst (IsNodeOf whole) node (sound parent whole has))
+-- a part of a box within the root is within it too
+module _ (root box : List Slot) (split : Split) (is : IsBoxWithin root box) (lawful : IsLawfulSplit box split) where
+  IsBoxWithin-left : IsBoxWithin root (left_of box split)
+  IsBoxWithin-left = record {
+    is = IsBox-left_of box split is.is lawful;
+    slots = rw length-set is.slots;
+    within = λ ops volume horizon inside. IsWithinRoot-left box split is.is (divided_from_lawful box split lawful) ops volume horizon
+        (is.within ops volume horizon inside);
+  }
+
+  IsBoxWithin-right : IsBoxWithin root (right_of box split)
+  IsBoxWithin-right = record {
+    is = IsBox-right_of box split is.is lawful;
+    slots = rw length-set is.slots;
+    within = λ ops volume horizon inside. IsWithinRoot-right box split is.is (divided_from_lawful box split lawful) ops volume horizon
+        (is.within ops volume horizon inside);
+  }
+
+-- each box of a node is a box within the root
+pub IsBoxWithin-node : NodeBoxesStayWithin
+IsBoxWithin-node root node_at is sound id box root_box = record { is = is; slots = refl; within = λ ops volume horizon inside. inside }
+IsBoxWithin-node root node_at is sound id box (left_part {id = parent} {split} {box = whole} has node) =
+    IsBoxWithin-left root whole split (IsBoxWithin-node root node_at is sound parent whole has) (subst (IsNodeOf whole) node (sound parent whole has))
+IsBoxWithin-node root node_at is sound id box (right_part {id = parent} {split} {box = whole} has node) =
+    IsBoxWithin-right root whole split (IsBoxWithin-node root node_at is sound parent whole has) (subst (IsNodeOf whole) node (sound parent whole has))
+
+pub IsBox-node : (root : List Slot) (node_at : ℕ → Option Node) → IsBox root → IsSearchTree root node_at → (id : ℕ) (box : List Slot)
+    → HasBox root node_at id box → IsBox box
+IsBox-node root node_at is sound id box has = (IsBoxWithin-node root node_at is sound id box has).is
 
 module _ (root : List Slot) (node_at : ℕ → Option Node) (is : IsBox root) (sound : IsSearchTree root node_at) where
-  covered_below : (n id : ℕ) (box : List Slot) (point : List Entry) → points_of box ≤ n → HasBox root node_at id box → IsPoint box point → InLeaf root node_at point
+  covered_below : (n id : ℕ) (box : List Slot) (point : List Entry) → points_of box ≤ n → HasBox root node_at id box → IsPoint box point
+      → InLeaf root node_at point
   covered_below zero id box point few has there =
       let some = points_of-box box (IsBox-node root node_at is sound id box has) in absurd (omega arith)
   covered_below (suc n) id box point few has there =
@@ -88,7 +116,9 @@ module _ (root : List Slot) (node_at : ℕ → Option Node) (is : IsBox root) (s
       whole : IsBox box
       whole = IsBox-node root node_at is sound id box has
 
-      by_node : (node : Option Node) → node_at id ≡ node → IsNodeOf box node → ((child : ℕ) (part : List Slot) → points_of part ≤ n → HasBox root node_at child part → IsPoint part point → InLeaf root node_at point) → InLeaf root node_at point
+      by_node : (node : Option Node) → node_at id ≡ node → IsNodeOf box node
+          → ((child : ℕ) (part : List Slot) → points_of part ≤ n → HasBox root node_at child part → IsPoint part point → InLeaf root node_at point)
+          → InLeaf root node_at point
       by_node None here lawful below = absurd lawful
       by_node (Some (Leaf kind)) here lawful below =
           record { id = id; box = box; kind = kind; has = has; node = here; there = there }
@@ -119,7 +149,8 @@ module _ (root : List Slot) (node_at : ℕ → Option Node) (is : IsBox root) (s
       whole : IsBox box
       whole = IsBox-node root node_at is sound id box has
 
-      by_node : (node : Option Node) → node_at id ≡ node → IsNodeOf box node → ((child : ℕ) (part : List Slot) → points_of part ≤ n → HasBox root node_at child part → Shape child part) → Shape id box
+      by_node : (node : Option Node) → node_at id ≡ node → IsNodeOf box node
+          → ((child : ℕ) (part : List Slot) → points_of part ≤ n → HasBox root node_at child part → Shape child part) → Shape id box
       by_node None here lawful below = absurd lawful
       by_node (Some (Leaf kind)) here lawful below = (leaf, (kind, here), tt)
       by_node (Some (Inner ticket split)) here lawful below =

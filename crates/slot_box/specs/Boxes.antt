@@ -1,14 +1,15 @@
 -- Boxes, as the lists of their slots, and their points.
 use Rattle.std.specs.Prelude.{◌≡◌, ℕ, ◌+◌, ◌-◌, ◌*◌, ◌^◌, ◌<◌, ◌≤◌, Option, Some, None, List, [], ◌∷◌, length, replicate, slice_index_or, All, map}
 use Rattle.std.specs.List.{AllZip}
+use Rattle.limits.specs.declared.TheConstants.{MOST_SLOTS}
 use Rattle.slot_box.specs.declared.slot.Slot.{Slot}
-use Rattle.slot_box.specs.Entries.{Entry, idle, runs, LiesIn}
+use Rattle.slot_box.specs.Entries.{Entry, idle, runs, bit_of, LiesIn}
 use Rattle.slot_box.specs.Slots.{IsSlot, span, operations_of, fixed_of, ways_of}
 
--- what every box keeps: 1 to 40 slots, each within the limits and with a live entry
+-- what every box keeps: some slots, no more than a search may have, each within the limits and with a live entry
 pub record IsBox (slots : List Slot) : Type 0 where
   pub some_slots : 1 ≤ length slots
-  pub most_slots : length slots ≤ 40
+  pub most_slots : length slots ≤ MOST_SLOTS
   pub each : All IsSlot slots
 
 -- past the last slot: no entry at all
@@ -33,7 +34,8 @@ HasPoint slots = (point : List Entry) × IsPoint slots point
 
 -- exactly one is
 abbrev pub HasOnePoint : List Slot → Type 0
-HasOnePoint slots = (point : List Entry) × IsPoint slots point × ((other : List Entry) → IsPoint slots other → other ≡ point)
+HasOnePoint slots =
+    (point : List Entry) × IsPoint slots point × ((other : List Entry) → IsPoint slots other → other ≡ point)
 
 -- how many points the box has: each slot is filled by itself
 abbrev pub points_of : List Slot → ℕ
@@ -86,3 +88,7 @@ IsWithinRoot ops volume horizon slots = All (IsSlotOfRoot ops volume horizon) sl
 abbrev pub StaysWithinRoot : List Slot → List Slot → Type 0
 StaysWithinRoot whole part =
     (ops volume horizon : ℕ) → IsWithinRoot ops volume horizon whole → IsWithinRoot ops volume horizon part
+
+-- whatever point of the box it is, the slot of this number runs the operation
+abbrev pub RunsAlways : List Slot → ℕ → ℕ → Type 0
+RunsAlways slots i op = (point : List Entry) → IsPoint slots point → bit_of (entry_at point i) ≡ op

@@ -2,6 +2,9 @@ pub mod Boxes
 pub mod Counting
 pub mod Entries
 pub mod Laws
+pub mod Nodes
+pub mod Ranges
 pub mod Slots
 pub mod Splits
+pub mod Tasks
 pub mod Trees

@@ -1,6 +1,7 @@
 -- What one slot of a box allows.
 use Rattle.std.specs.Prelude.{◌≡◌, ℕ, ◌+◌, ◌-◌, ◌*◌, ◌%◌, ◌^◌, ◌<◌, ◌≤◌, Bool, ◌==◌, nat_lt, nat_le, ◌&&◌, if◌then◌else◌, IsTrue, Option, Some, None, IsBitSet, count_ones}
 use Rattle.std.specs.Int.{w64, is_power_of_two, trailing_zeros}
+use Rattle.limits.specs.declared.TheConstants.{MOST_HORIZON, MOST_OPERATIONS, MOST_VOLUME}
 use Rattle.slot_box.specs.declared.slot.Span.{Span}
 use Rattle.slot_box.specs.declared.slot.Slot.{Slot}
 
@@ -49,19 +50,21 @@ pub record IsFixedTo (s : Slot) (op : ℕ) : Type 0 where
 -- the operation to which the slot is fixed, where it is
 abbrev pub fixed_of : Slot → Option ℕ
 fixed_of s =
-    if is_power_of_two (live_of s) && nat_lt (live_of s) (2 ^ idle_bit) then Some (trailing_zeros w64 (live_of s)) else None
+    if is_power_of_two (live_of s) && nat_lt (live_of s) (2 ^ idle_bit)
+    then Some (trailing_zeros w64 (live_of s)) else None
 
 -- in how many ways the slot can be filled: an operation with a volume, a start and an end, or idle
 abbrev pub ways_of : Slot → ℕ
 ways_of s =
-    count_ones (operations_of s) * size_of s.volume * size_of s.start * size_of s.end + (if nat_le (2 ^ idle_bit) (live_of s) then 1 else 0)
+    count_ones (operations_of s) * size_of s.volume * size_of s.start * size_of s.end
+    + (if nat_le (2 ^ idle_bit) (live_of s) then 1 else 0)
 
 -- the limits of a slot: its intervals are not empty, and stay within the limits of volumes and
--- minutes; it has some live entry, and no operation from 48 on
+-- minutes; it has some live entry, and no operation past those that a plant may have
 pub record IsSlot (s : Slot) : Type 0 where
-  pub volume : IsSpanUpTo 10000000 s.volume
-  pub start : IsSpanUpTo 100000 s.start
-  pub end : IsSpanUpTo 100000 s.end
+  pub volume : IsSpanUpTo MOST_VOLUME s.volume
+  pub start : IsSpanUpTo MOST_HORIZON s.start
+  pub end : IsSpanUpTo MOST_HORIZON s.end
   pub set : s.ops < 2 ^ 64
-  pub known : operations_of s < 2 ^ 48
+  pub known : operations_of s < 2 ^ MOST_OPERATIONS
   pub live : 0 < live_of s

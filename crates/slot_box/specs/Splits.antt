@@ -78,11 +78,14 @@ is_lawful slots split =
 abbrev pub IsMiddle : Span → ℕ → Type 0
 IsMiddle s x = x ≡ s.lo + (s.hi - s.lo + 1) / 2
 
+-- the numbers of entries of two sets differ by at most one
+abbrev pub AreNearlyAlike : ℕ → ℕ → Type 0
+AreNearlyAlike a b = (count_ones a ≤ count_ones b + 1) × (count_ones b ≤ count_ones a + 1)
+
 -- the halves are as like as can be: the numbers of live entries that go left and right differ by at most
 -- one, or the interval is cut in its middle
 abbrev pub IsEvenHalving : Slot → SplitKind → Type 0
-IsEvenHalving s (Ops set) =
-    (count_ones (bit_and (live_of s) set) ≤ count_ones (live_of s - bit_and (live_of s) set) + 1) × (count_ones (live_of s - bit_and (live_of s) set) ≤ count_ones (bit_and (live_of s) set) + 1)
+IsEvenHalving s (Ops set) = AreNearlyAlike (bit_and (live_of s) set) (live_of s - bit_and (live_of s) set)
 IsEvenHalving s (Volume x) = IsMiddle s.volume x
 IsEvenHalving s (Start x) = IsMiddle s.start x
 IsEvenHalving s (End x) = IsMiddle s.end x

@@ -13,8 +13,10 @@ use Rattle.slot_box.specs.Splits.{IsLawfulSplit, left_of, right_of}
 -- to node 2T + 1 and the right part to node 2T + 2. Nothing is said of the order of tickets
 pub data HasBox (root : List Slot) (node_at : ℕ → Option Node) : ℕ → List Slot → Type 0 where
   root_box : HasBox root node_at 0 root
-  left_part : {id ticket : ℕ} {split : Split} {box : List Slot} → HasBox root node_at id box → node_at id ≡ Some (Inner ticket split) → HasBox root node_at (2 * ticket + 1) (left_of box split)
-  right_part : {id ticket : ℕ} {split : Split} {box : List Slot} → HasBox root node_at id box → node_at id ≡ Some (Inner ticket split) → HasBox root node_at (2 * ticket + 2) (right_of box split)
+  left_part : {id ticket : ℕ} {split : Split} {box : List Slot} → HasBox root node_at id box
+      → node_at id ≡ Some (Inner ticket split) → HasBox root node_at (2 * ticket + 1) (left_of box split)
+  right_part : {id ticket : ℕ} {split : Split} {box : List Slot} → HasBox root node_at id box
+      → node_at id ≡ Some (Inner ticket split) → HasBox root node_at (2 * ticket + 2) (right_of box split)
 
 -- the node is there, and where it is inner it divides the box lawfully
 abbrev pub IsNodeOf : List Slot → Option Node → Type 0
@@ -61,4 +63,5 @@ IsLawfulTree box (fork split left right) =
 abbrev pub IsTreeAt : (ℕ → Option Node) → ℕ → Tree → Type 0
 IsTreeAt node_at id leaf = (kind : LeafKind) × (node_at id ≡ Some (Leaf kind))
 IsTreeAt node_at id (fork split left right) =
-    (ticket : ℕ) × (node_at id ≡ Some (Inner ticket split)) × IsTreeAt node_at (2 * ticket + 1) left × IsTreeAt node_at (2 * ticket + 2) right
+    (ticket : ℕ) × (node_at id ≡ Some (Inner ticket split)) × IsTreeAt node_at (2 * ticket + 1) left
+    × IsTreeAt node_at (2 * ticket + 2) right

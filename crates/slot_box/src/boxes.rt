@@ -1,4 +1,5 @@
 ghost use Rattle.std.specs.Prelude.{◌≡◌, ℕ, ◌+◌, ◌-◌, ◌^◌, ◌<◌, ◌≤◌, ◌↔◌, min, length, slice_set, All, IsTrue, IsBitSet, IfSome, IfOk, OnOk, List};
+ghost use Rattle.limits.specs.declared.TheConstants.{MOST_HORIZON, MOST_OPERATIONS, MOST_SLOTS, MOST_VOLUME};
 ghost use Rattle.slot_box.specs.Boxes.{points_of};
 ghost use Rattle.slot_box.specs.Slots.{IsSlot, ways_of};
 
@@ -27,8 +28,7 @@ impl Model for SlotBox {
 }
 
 impl SlotBox {
-    ghost use Rattle.slot_box.specs.Boxes.{IsBox, IsPoint, HasPoint, HasOnePoint, IsWithinRoot, StaysWithinRoot, root_of, slot_at, entry_at, only_point};
-    ghost use Rattle.slot_box.specs.Entries.{Entry, bit_of};
+    ghost use Rattle.slot_box.specs.Boxes.{IsBox, IsPoint, HasPoint, HasOnePoint, IsWithinRoot, StaysWithinRoot, RunsAlways, root_of, slot_at, only_point};
     ghost use Rattle.slot_box.specs.Counting.{IsCountOf};
     ghost use Rattle.slot_box.specs.Slots.{IsLive, IsFixedTo, live_of, fixed_of};
     ghost use Rattle.slot_box.specs.Splits.{IsLawfulSplit, IsPartition, left_of, right_of, is_lawful};
@@ -43,11 +43,11 @@ impl SlotBox {
         horizon: u32,
     ) -> Result<SlotBox, AllocError>
         requires some_slots { 1 ≤ n }
-        requires most_slots { n ≤ 40 }
-        requires most_ops { ops ≤ 48 }
-        requires most_volume { volume ≤ 10000000 }
+        requires most_slots { n ≤ MOST_SLOTS }
+        requires most_ops { ops ≤ MOST_OPERATIONS }
+        requires most_volume { volume ≤ MOST_VOLUME }
         requires some_minutes { 1 ≤ horizon }
-        requires most_minutes { horizon ≤ 100000 }
+        requires most_minutes { horizon ≤ MOST_HORIZON }
         ensures value { IfOk result (λ bx. bx ≡ root_of n ops volume horizon) }
         ensures within { IfOk result (λ bx. IsWithinRoot ops volume horizon bx) }
     {
@@ -96,7 +96,7 @@ impl SlotBox {
         requires there { i ≤ length self.now }
         ensures value { result ≡ fixed_of (slot_at self.now i) }
         ensures some { (op : ℕ) → (result ≡ Some op) ↔ IsFixedTo (slot_at self.now i) op }
-        ensures runs { IfSome result (λ op. (point : List Entry) → IsPoint self.now point → bit_of (entry_at point i) ≡ op) }
+        ensures runs { IfSome result (RunsAlways self.now i) }
     {
         self.slot(i).fixed()
     }
@@ -147,7 +147,23 @@ impl SlotBox {
         if !self.is_lawful(split) {
             return Err(SplitFault::BadSplit);
         }
-        Ok(self.parts(alloc, split)?)
+        Ok(self.divide(alloc, split)?)
+    }
+
+    /// The two parts of the box by a split that is known to be lawful.
+    pub fn divide(&self, alloc: Global, split: Split) -> Result<(SlotBox, SlotBox), AllocError>
+        requires { IsLawfulSplit self.now split }
+        ensures left { IfOk result (λ parts. parts.0 ≡ left_of self.now split) }
+        ensures right { IfOk result (λ parts. parts.1 ≡ right_of self.now split) }
+        ensures points { IfOk result (λ parts. IsPartition self.now split parts.0 parts.1) }
+        ensures count { IfOk result (λ parts. points_of parts.0 + points_of parts.1 ≡ points_of self.now) }
+        ensures within { IfOk result (λ parts. StaysWithinRoot self.now parts.0 × StaysWithinRoot self.now parts.1) }
+    {
+        let _ = &self.slots;
+        let slot = self.slot(split.slot);
+        let left = self.with_slot(alloc, split.slot, left_half(slot, split.kind))?;
+        let right = self.with_slot(alloc, split.slot, right_half(slot, split.kind))?;
+        Ok((left, right))
     }
 
     /// A box of the same slots.
@@ -170,21 +186,6 @@ impl SlotBox {
         ensures { result ≡ is_lawful self.now split }
     {
         1 <= split.slot && split.slot <= self.len() && divides(self.slot(split.slot), split.kind)
-    }
-
-    fn parts(&self, alloc: Global, split: Split) -> Result<(SlotBox, SlotBox), AllocError>
-        requires { IsLawfulSplit self.now split }
-        ensures left { IfOk result (λ parts. parts.0 ≡ left_of self.now split) }
-        ensures right { IfOk result (λ parts. parts.1 ≡ right_of self.now split) }
-        ensures points { IfOk result (λ parts. IsPartition self.now split parts.0 parts.1) }
-        ensures count { IfOk result (λ parts. points_of parts.0 + points_of parts.1 ≡ points_of self.now) }
-        ensures within { IfOk result (λ parts. StaysWithinRoot self.now parts.0 × StaysWithinRoot self.now parts.1) }
-    {
-        let _ = &self.slots;
-        let slot = self.slot(split.slot);
-        let left = self.with_slot(alloc, split.slot, left_half(slot, split.kind))?;
-        let right = self.with_slot(alloc, split.slot, right_half(slot, split.kind))?;
-        Ok((left, right))
     }
 
     /// A copy of the box with another slot in the place of one.
@@ -252,17 +253,26 @@ mod tests {
     }
 
     // one slot of one charge of up to 4 units in 2 minutes, or idle
+    fn one_charge(alloc: Global) -> Result<SlotBox, AllocError> {
+        SlotBox::root(alloc, 1, 1, 4, 2)
+    }
+
     #[test]
-    fn splits_the_box_of_one_charge(rt: HostRuntime) -> Result<(), Fail> {
-        let root = SlotBox::root(rt.alloc(), 1, 1, 4, 2)?;
-        assert_eq!(rt; root.points(), 46);
-        assert!(rt; !root.is_point());
-        assert_eq!(rt; root.division(), Some(at(1, SplitKind::Ops(1))));
+    fn a_split_that_is_not_lawful_is_refused(rt: HostRuntime) -> Result<(), Fail> {
+        let root = one_charge(rt.alloc())?;
         let bad = root.split(rt.alloc(), at(1, SplitKind::Volume(0)));
         assert_eq!(rt; bad.err(), Some(SplitFault::BadSplit));
         let bad = root.split(rt.alloc(), at(2, SplitKind::Volume(1)));
         assert_eq!(rt; bad.err(), Some(SplitFault::BadSplit));
+        Ok(())
+    }
 
+    #[test]
+    fn the_charge_and_idle_go_apart(rt: HostRuntime) -> Result<(), Fail> {
+        let root = one_charge(rt.alloc())?;
+        assert_eq!(rt; root.points(), 46);
+        assert!(rt; !root.is_point());
+        assert_eq!(rt; root.division(), Some(at(1, SplitKind::Ops(1))));
         let (left, right) = root.split(rt.alloc(), at(1, SplitKind::Ops(1)))?;
         assert_eq!(rt; left.points(), 45);
         assert_eq!(rt; left.len(), 1);
@@ -273,10 +283,13 @@ mod tests {
         assert_eq!(rt; right.len(), 1);
         assert_eq!(rt; right.live(1), IDLE);
         assert_eq!(rt; right.fixed_at(1), None);
-        let bad = right.split(rt.alloc(), at(1, SplitKind::Volume(1)));
-        assert_eq!(rt; bad.err(), Some(SplitFault::BadSplit));
+        Ok(())
+    }
 
-        // idle is no longer live where a volume is wanted
+    // idle is no longer live where a volume is wanted
+    #[test]
+    fn volumes_go_apart(rt: HostRuntime) -> Result<(), Fail> {
+        let root = one_charge(rt.alloc())?;
         let (left, right) = root.split(rt.alloc(), at(1, SplitKind::Volume(2)))?;
         assert_eq!(rt; left.points(), 19);
         assert_eq!(rt; right.points(), 27);

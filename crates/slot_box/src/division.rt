@@ -1,4 +1,5 @@
 ghost use Rattle.std.specs.Prelude.{◌≡◌, ◌≢◌, ◌^◌, ◌<◌, ◌≤◌, true, length, All, MatchOption, count_ones};
+ghost use Rattle.limits.specs.declared.TheConstants.{MOST_SLOTS};
 ghost use Rattle.slot_box.specs.Boxes.{points_of};
 ghost use Rattle.slot_box.specs.Slots.{IsSlot, operations_of, live_of, ways_of};
 ghost use Rattle.slot_box.specs.Splits.{is_cut_by, divides, is_lawful};
@@ -52,7 +53,7 @@ fn divide_slot(slot: Slot) -> Option<SplitKind>
 /// What divides the first slot that can be filled in more than one way.
 pub(crate) fn divide_first(slots: &[Slot]) -> Option<Split>
     requires shape { All IsSlot slots.now }
-    requires few { length slots.now ≤ 40 }
+    requires few { length slots.now ≤ MOST_SLOTS }
     ensures { MatchOption result (points_of slots.now ≡ 1) (λ split. is_lawful slots.now split ≡ true) }
 {
     for (i, slot) in slots.iter().enumerate() {

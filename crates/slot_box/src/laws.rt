@@ -1,4 +1,4 @@
-ghost use Rattle.slot_box.specs.Laws.{EntriesAreLive, OnlyPointsArePoints, RootsAreBoxes, RootSlotsMayIdle, RootSlotsMayRun, PartsSharePoints, PartsAreBoxes, PartsShareCounts, LeavesCoverRoots, LeavesAreAtMostPoints};
+ghost use Rattle.slot_box.specs.Laws.{EntriesAreLive, OnlyPointsArePoints, RootsAreBoxes, RootSlotsMayIdle, RootSlotsMayRun, PartsSharePoints, PartsAreBoxes, PartsShareCounts, LeavesCoverRoots, NodeBoxesStayWithin, LeavesSharePoints, LeavesAreAtMostPoints, ListsAreTrees, OpenLeavesCost};
 
 /// The laws of boxes and root boxes, for whoever reasons about them: a call does nothing and brings them.
 pub fn box_laws()
@@ -19,5 +19,13 @@ pub fn split_laws()
 /// The laws of search trees: a call does nothing and brings them.
 pub fn tree_laws()
     ensures cover { LeavesCoverRoots }
+    ensures within { NodeBoxesStayWithin }
+    ensures share { LeavesSharePoints }
     ensures few { LeavesAreAtMostPoints }
+{}
+
+/// The laws of search trees that are lists of nodes: a call does nothing and brings them.
+pub fn node_list_laws()
+    ensures shape { ListsAreTrees }
+    ensures cost { OpenLeavesCost }
 {}

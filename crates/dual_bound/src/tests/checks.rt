@@ -1,30 +1,37 @@
 //! Tests of what the calls of this crate ask, so that a test may call them on rows that it makes.
 
-ghost use Rattle.std.specs.Prelude.{◌≡◌, ℕ, ◌*◌, ◌^◌, ◌<◌, ◌≤◌, ◌≤ℤ◌, length, All, IsTrue, unsigned_abs};
+ghost use Rattle.std.specs.Prelude.{◌*◌, ◌^◌, ◌<◌, ◌≤◌, ◌≤ℤ◌, All, IsTrue, unsigned_abs};
 ghost use Rattle.linear_form.specs.Bounds.{range_of};
-ghost use Rattle.linear_form.specs.Columns.{IsColumn, HasPart};
+ghost use Rattle.linear_form.specs.Columns.{IsColumn, HasPart, HasSlot};
 ghost use Rattle.dual_bound.specs.Conditions.{reach_of, AreColumns, AreSmall, IsSystem, IsGuess};
 
 use crate::Guess;
 use linear_form::{Column, IDLE_ENTRY, Interval, Objective, Part, Ranges, Row, RowList, RowTerm};
 
-fn has_part(ops: u8, crudes: u8, entry: u8, part: Part) -> bool
-    ensures { IsTrue result → HasPart (record { slots = 1; ops = ops; crudes = crudes }) entry part }
+fn has_part(ranges: &Ranges, entry: u8, part: Part) -> bool
+    ensures { IsTrue result → HasPart ranges.now.extent entry part }
 {
     match part {
-        Part::Z => entry < ops || entry == IDLE_ENTRY,
-        Part::A(crude) => entry < ops && crude < crudes,
-        Part::S => entry < ops,
-        Part::E => entry < ops,
+        Part::Z => entry < ranges.ops() || entry == IDLE_ENTRY,
+        Part::A(crude) => entry < ranges.ops() && crude < ranges.crudes(),
+        Part::S | Part::E => entry < ranges.ops(),
+        Part::W => entry < ranges.vessels(),
+    }
+}
+
+fn has_slot(ranges: &Ranges, slot: u32, part: Part) -> bool
+    ensures { IsTrue result → HasSlot ranges.now.extent slot part }
+{
+    match part {
+        Part::W => slot == 0,
+        Part::Z | Part::A(_) | Part::S | Part::E => 1 <= slot && slot <= ranges.slots(),
     }
 }
 
 fn is_column(ranges: &Ranges, column: Column) -> bool
     ensures { IsTrue result → IsColumn ranges.now.extent column }
 {
-    1 <= column.slot
-        && column.slot <= ranges.slots()
-        && has_part(ranges.ops(), ranges.crudes(), column.entry, column.part)
+    has_slot(ranges, column.slot, column.part) && has_part(ranges, column.entry, column.part)
 }
 
 fn is_small(range: Interval, factor: i64) -> bool

@@ -2,12 +2,13 @@ ghost use Rattle.std.specs.Prelude.{◌≡◌, ◌<◌, ℤ, List, length};
 ghost use Rattle.std.specs.Result.{result_err};
 ghost use Rattle.item_lists.specs.Faults.{first_of, each_from};
 ghost use Rattle.plant_model.specs.Faults.{amount_count_faults, amount_faults, each_amounts, all_amount_faults};
-ghost use Rattle.plant_model.specs.SoundParts.{FewEntries};
+ghost use Rattle.plant_model.specs.inside.SoundParts.{FewEntries};
 
 use crate::faults::each::{expect_at, first_of_each};
 use crate::numbers::{all_within, total_of};
 use crate::parts::{Parts, TankPart, VesselPart};
 use crate::place::{Key, PlantFault, Section};
+use limits::MOST_VOLUME;
 
 /// An entry that holds crude.
 trait Holder {
@@ -46,7 +47,8 @@ fn count_fault(
 
 fn counts<T: Holder>(count: usize, section: Section, entries: &[T]) -> Result<(), PlantFault>
     requires { length entries.now < 50 }
-    ensures { result_err result ≡ first_of (each_from (λ index entry. amount_count_faults count section index (T.amounts_of entry)) 1 entries.now) }
+    ensures { result_err result
+        ≡ first_of (each_from (λ i entry. amount_count_faults count section i (T.amounts_of entry)) 1 entries.now) }
 {
     first_of_each(
         entries,
@@ -68,13 +70,15 @@ fn all_counts(parts: &Parts) -> Result<(), PlantFault>
 fn range_fault(section: Section, index: u32, amounts: &[i64]) -> Result<(), PlantFault>
     ensures { result_err result ≡ first_of (amount_faults section index amounts.now) }
 {
-    let holds = all_within(0, 10_000_000, amounts) && total_of(amounts) <= 10_000_000;
+    let holds = all_within(0, MOST_VOLUME as i64, amounts)
+        && total_of(amounts) <= MOST_VOLUME as i128;
     expect_at(holds, 14, section, index, Key::Amounts)
 }
 
 fn ranges<T: Holder>(section: Section, entries: &[T]) -> Result<(), PlantFault>
     requires { length entries.now < 50 }
-    ensures { result_err result ≡ first_of (each_from (λ index entry. amount_faults section index (T.amounts_of entry)) 1 entries.now) }
+    ensures { result_err result
+        ≡ first_of (each_from (λ i entry. amount_faults section i (T.amounts_of entry)) 1 entries.now) }
 {
     first_of_each(
         entries,

@@ -2,7 +2,7 @@ ghost use Rattle.std.specs.Prelude.{◌≡◌};
 ghost use Rattle.std.specs.Result.{result_err};
 ghost use Rattle.item_lists.specs.Faults.{first_of};
 ghost use Rattle.plant_model.specs.Faults.{arrival_faults, arrival_before, arrival_order_faults, all_arrival_faults};
-ghost use Rattle.plant_model.specs.SoundParts.{FewEntries};
+ghost use Rattle.plant_model.specs.inside.SoundParts.{FewEntries};
 
 use crate::faults::each::{expect_at, first_of_each};
 use crate::numbers::is_within;

@@ -2,18 +2,19 @@ ghost use Rattle.std.specs.Prelude.{◌≡◌, length};
 ghost use Rattle.std.specs.Result.{result_err};
 ghost use Rattle.item_lists.specs.Faults.{first_of};
 ghost use Rattle.plant_model.specs.Faults.{margin_faults, property_count_faults, property_faults, crude_faults};
-ghost use Rattle.plant_model.specs.SoundParts.{FewEntries};
+ghost use Rattle.plant_model.specs.inside.SoundParts.{FewEntries};
 
 use crate::faults::each::{expect_at, first_of_each};
 use crate::numbers::{all_within, is_within};
 use crate::parts::{CrudePart, Parts};
 use crate::place::{Key, PlantFault, Section};
+use limits::{MOST_MARGIN, MOST_PROPERTY};
 
 fn margin_fault(index: u32, crude: &CrudePart) -> Result<(), PlantFault>
     ensures { result_err result ≡ first_of (margin_faults index crude.now) }
 {
     expect_at(
-        is_within(-1_000_000, 1_000_000, crude.margin),
+        is_within(-(MOST_MARGIN as i64), MOST_MARGIN as i64, crude.margin),
         10,
         Section::Crudes,
         index,
@@ -37,7 +38,7 @@ fn property_fault(index: u32, crude: &CrudePart) -> Result<(), PlantFault>
     ensures { result_err result ≡ first_of (property_faults index crude.now) }
 {
     expect_at(
-        all_within(0, 1_000_000, crude.properties.as_slice()),
+        all_within(0, MOST_PROPERTY as i64, crude.properties.as_slice()),
         12,
         Section::Crudes,
         index,

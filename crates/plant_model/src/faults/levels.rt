@@ -2,12 +2,13 @@ ghost use Rattle.std.specs.Prelude.{◌≡◌, ◌<◌, length};
 ghost use Rattle.std.specs.Result.{result_err};
 ghost use Rattle.item_lists.specs.Faults.{first_of, each_from};
 ghost use Rattle.plant_model.specs.Faults.{level_faults, first_level_faults, demand_faults, charge_count_faults, level_and_demand_faults};
-ghost use Rattle.plant_model.specs.SoundParts.{FewEntries};
+ghost use Rattle.plant_model.specs.inside.SoundParts.{FewEntries};
 
 use crate::faults::each::{expect_at, first_of_each};
 use crate::numbers::{is_range, total_of};
 use crate::parts::{Pair, Parts, TankPart, UnitPart};
 use crate::place::{Key, PlantFault, Section};
+use limits::{MOST_SLOTS, MOST_VOLUME};
 
 fn level_fault(section: Section, index: u32, tank: &TankPart) -> Result<(), PlantFault>
     ensures { result_err result ≡ first_of (level_faults section index tank.now) }
@@ -17,7 +18,7 @@ fn level_fault(section: Section, index: u32, tank: &TankPart) -> Result<(), Plan
         hi: tank.max,
     };
     expect_at(
-        is_range(0, 10_000_000, levels),
+        is_range(0, MOST_VOLUME as i64, levels),
         17,
         section,
         index,
@@ -57,7 +58,7 @@ fn demand_fault(index: u32, tank: &TankPart) -> Result<(), PlantFault>
     ensures { result_err result ≡ first_of (demand_faults index tank.now) }
 {
     expect_at(
-        is_range(0, 10_000_000, tank.demand),
+        is_range(0, MOST_VOLUME as i64, tank.demand),
         19,
         Section::Charging,
         index,
@@ -69,7 +70,7 @@ fn charge_count_fault(index: u32, part: &UnitPart) -> Result<(), PlantFault>
     ensures { result_err result ≡ first_of (charge_count_faults index part.now) }
 {
     expect_at(
-        is_range(0, 40, part.charges),
+        is_range(0, MOST_SLOTS as i64, part.charges),
         19,
         Section::Units,
         index,

@@ -3,7 +3,7 @@ ghost use Rattle.std.specs.Result.{result_err};
 ghost use Rattle.item_lists.specs.Faults.{first_of, each_from};
 ghost use Rattle.plant_model.specs.Parts.{position_of};
 ghost use Rattle.plant_model.specs.Faults.{names_beside, names_before, name_faults, repeat_faults, all_name_faults, all_repeat_faults};
-ghost use Rattle.plant_model.specs.SoundParts.{FewEntries};
+ghost use Rattle.plant_model.specs.inside.SoundParts.{FewEntries};
 
 use crate::faults::each::{expect_at, first_of_each};
 use crate::named::{Named, first_named, place_by_name};
@@ -19,7 +19,8 @@ fn form_fault(section: Section, index: u32, name: &[u8]) -> Result<(), PlantFaul
 
 fn form_of_each<T: Named>(section: Section, entries: &[T]) -> Result<(), PlantFault>
     requires { length entries.now < 50 }
-    ensures { result_err result ≡ first_of (each_from (λ index entry. name_faults section index (T.name_of entry)) 1 entries.now) }
+    ensures { result_err result
+        ≡ first_of (each_from (λ index entry. name_faults section index (T.name_of entry)) 1 entries.now) }
 {
     first_of_each(
         entries,
@@ -96,7 +97,8 @@ fn repeat_fault(parts: &Parts, section: Section, index: u32, name: &[u8]) -> Res
 fn repeats<T: Named>(parts: &Parts, section: Section, entries: &[T]) -> Result<(), PlantFault>
     requires few { FewEntries parts.now }
     requires few_here { length entries.now < 50 }
-    ensures { result_err result ≡ first_of (each_from (λ index entry. repeat_faults parts.now section index (T.name_of entry)) 1 entries.now) }
+    ensures { result_err result
+        ≡ first_of (each_from (λ index entry. repeat_faults parts.now section index (T.name_of entry)) 1 entries.now) }
 {
     first_of_each(
         entries,

@@ -3,7 +3,7 @@ ghost use Rattle.std.specs.Result.{result_err};
 ghost use Rattle.item_lists.specs.Faults.{first_of};
 ghost use Rattle.plant_model.specs.Parts.{kind_named, arrival_named};
 ghost use Rattle.plant_model.specs.Faults.{is_route, is_window, limit_count, are_limits, unknown_place_faults, route_faults, range_faults, operation_faults};
-ghost use Rattle.plant_model.specs.SoundParts.{FewEntries};
+ghost use Rattle.plant_model.specs.inside.SoundParts.{FewEntries};
 
 use crate::details::PlaceKind;
 use crate::faults::each::{expect_at, first_of_each};
@@ -12,6 +12,7 @@ use crate::numbers::{all_ranges, is_range};
 use crate::parts::{OperationPart, Pair, Parts};
 use crate::place::{Key, PlantFault, Section};
 use crate::place_part::place_part;
+use limits::{MOST_PROPERTY, MOST_RATE, MOST_VOLUME};
 
 /// The kind of the place with the name, where there is one.
 fn kind_named(parts: &Parts, name: &[u8]) -> Option<PlaceKind>
@@ -94,7 +95,7 @@ fn limit_count(properties: usize, source: Option<PlaceKind>) -> usize
 fn are_limits(count: usize, limits: &[Pair]) -> bool
     ensures { result ≡ are_limits count limits.now }
 {
-    limits.len() == count && all_ranges(0, 1_000_000, limits)
+    limits.len() == count && all_ranges(0, MOST_PROPERTY as i64, limits)
 }
 
 fn has_window(parts: &Parts, operation: &OperationPart) -> bool
@@ -107,7 +108,9 @@ fn has_window(parts: &Parts, operation: &OperationPart) -> bool
 
 fn has_limits(parts: &Parts, operation: &OperationPart) -> bool
     requires { FewEntries parts.now }
-    ensures { result ≡ are_limits (limit_count (length parts.now.properties) (kind_named parts.now operation.now.from)) operation.now.limits }
+    ensures { result
+        ≡ are_limits (limit_count (length parts.now.properties) (kind_named parts.now operation.now.from))
+        operation.now.limits }
 {
     let source = kind_named(parts, operation.from.as_slice());
     let count = limit_count(parts.properties.as_slice().len(), source);
@@ -121,14 +124,14 @@ fn range_fault(parts: &Parts, index: u32, operation: &OperationPart) -> Result<(
     ensures { result_err result ≡ first_of (range_faults parts.now index operation.now) }
 {
     expect_at(
-        is_range(0, 10_000_000, operation.rate),
+        is_range(0, MOST_RATE as i64, operation.rate),
         22,
         Section::Operations,
         index,
         Key::Rate,
     )?;
     expect_at(
-        is_range(1, 10_000_000, operation.volume),
+        is_range(1, MOST_VOLUME as i64, operation.volume),
         22,
         Section::Operations,
         index,

@@ -1,71 +1,280 @@
-use crate::tests::plants::two_vessels;
-use crate::{CrudePart, Key, Parts, Place, Plant, PlantFault, PlantNewFault, Section};
-use item_lists::Items;
+use crate::tests::sample::{SOUND, Sample};
+use crate::{Key, Place, Plant, PlantFault, PlantNewFault, Section};
 use std::alloc::Global;
 use std::test::Fail;
 
-/// The fault that the parts are refused with.
-fn refusal(alloc: Global, parts: Parts) -> Option<PlantFault> {
-    match Plant::new(alloc, parts) {
-        Err(PlantNewFault::Fault(fault)) => Some(fault),
-        _ => None,
+type Row = (Sample, u8, Section, u32, Key);
+
+// A plant for each kind of fault, and the place of the fault.
+const FAULTS: &[Row] = &[
+    (
+        Sample {
+            horizon: 100_001,
+            ..SOUND
+        },
+        1,
+        Section::Plant,
+        0,
+        Key::Horizon,
+    ),
+    (
+        Sample {
+            more: (Section::Crudes, 11),
+            ..SOUND
+        },
+        2,
+        Section::Crudes,
+        0,
+        Key::List,
+    ),
+    (
+        Sample {
+            more: (Section::Properties, 6),
+            ..SOUND
+        },
+        3,
+        Section::Properties,
+        0,
+        Key::List,
+    ),
+    (
+        Sample {
+            more: (Section::Vessels, 11),
+            ..SOUND
+        },
+        4,
+        Section::Vessels,
+        0,
+        Key::List,
+    ),
+    (
+        Sample {
+            more: (Section::Charging, 22),
+            ..SOUND
+        },
+        5,
+        Section::Storage,
+        0,
+        Key::List,
+    ),
+    (
+        Sample {
+            more: (Section::Units, 6),
+            ..SOUND
+        },
+        6,
+        Section::Units,
+        0,
+        Key::List,
+    ),
+    (
+        Sample {
+            more: (Section::Operations, 45),
+            ..SOUND
+        },
+        7,
+        Section::Operations,
+        0,
+        Key::List,
+    ),
+    (
+        Sample {
+            crude_name: "a b",
+            ..SOUND
+        },
+        8,
+        Section::Crudes,
+        2,
+        Key::Name,
+    ),
+    (
+        Sample {
+            crude_name: "A",
+            ..SOUND
+        },
+        9,
+        Section::Crudes,
+        2,
+        Key::Name,
+    ),
+    (
+        Sample {
+            margin: 1_000_001,
+            ..SOUND
+        },
+        10,
+        Section::Crudes,
+        2,
+        Key::Margin,
+    ),
+    (
+        Sample {
+            values: &[],
+            ..SOUND
+        },
+        11,
+        Section::Crudes,
+        2,
+        Key::Properties,
+    ),
+    (
+        Sample {
+            values: &[1_000_001],
+            ..SOUND
+        },
+        12,
+        Section::Crudes,
+        2,
+        Key::Properties,
+    ),
+    (
+        Sample {
+            amounts: &[0],
+            ..SOUND
+        },
+        13,
+        Section::Vessels,
+        2,
+        Key::Amounts,
+    ),
+    (
+        Sample {
+            amounts: &[1, 10_000_000],
+            ..SOUND
+        },
+        14,
+        Section::Vessels,
+        2,
+        Key::Amounts,
+    ),
+    (
+        Sample {
+            arrival: 11_521,
+            ..SOUND
+        },
+        15,
+        Section::Vessels,
+        2,
+        Key::Arrival,
+    ),
+    (
+        Sample {
+            arrival: 59,
+            ..SOUND
+        },
+        16,
+        Section::Vessels,
+        2,
+        Key::Arrival,
+    ),
+    (
+        Sample {
+            least_level: -1,
+            ..SOUND
+        },
+        17,
+        Section::Storage,
+        2,
+        Key::Min,
+    ),
+    (
+        Sample {
+            least_level: 750_001,
+            ..SOUND
+        },
+        18,
+        Section::Storage,
+        2,
+        Key::Amounts,
+    ),
+    (
+        Sample {
+            most_demand: 10_000_001,
+            ..SOUND
+        },
+        19,
+        Section::Charging,
+        1,
+        Key::Demand,
+    ),
+    (
+        Sample {
+            from: "V3",
+            ..SOUND
+        },
+        20,
+        Section::Operations,
+        2,
+        Key::From,
+    ),
+    (
+        Sample {
+            from: "S1",
+            ..SOUND
+        },
+        21,
+        Section::Operations,
+        2,
+        Key::To,
+    ),
+    (
+        Sample {
+            most_rate: 10_000_001,
+            ..SOUND
+        },
+        22,
+        Section::Operations,
+        2,
+        Key::Rate,
+    ),
+    (
+        Sample { berth: 13, ..SOUND },
+        23,
+        Section::Vessels,
+        2,
+        Key::Berth,
+    ),
+    (
+        Sample {
+            demurrage: 1_001,
+            ..SOUND
+        },
+        24,
+        Section::Vessels,
+        2,
+        Key::Demurrage,
+    ),
+];
+
+fn faults() -> &'static [Row] {
+    FAULTS
+}
+
+/// The fault that the plant is refused with.
+fn refusal(alloc: Global, sample: Sample) -> Result<Option<PlantFault>, Fail> {
+    match Plant::new(alloc, sample.parts(alloc)?) {
+        Err(PlantNewFault::Fault(fault)) => Ok(Some(fault)),
+        _ => Ok(None),
     }
-}
-
-fn fault(number: u8, section: Section, index: u32, key: Key) -> Option<PlantFault> {
-    let place = Place {
-        section,
-        index,
-        key,
-    };
-    Some(PlantFault { number, place })
-}
-
-/// Changes the last entry of a section.
-fn change_last<T, F: FnOnce(&mut T)>(list: &mut Items<T>, change: F) -> Result<(), T>
-    requires { F.IsAlwaysCallable change }
-{
-    match list.pop() {
-        Some(mut last) => {
-            change(&mut last);
-            list.push(last)
-        }
-        None => Ok(()),
-    }
-}
-
-/// The fault of the two vessels' plant, where its last crude is changed.
-fn with_crude<F: FnOnce(&mut CrudePart)>(
-    alloc: Global,
-    change: F,
-) -> Result<Option<PlantFault>, Fail>
-    requires { F.IsAlwaysCallable change }
-{
-    let mut parts = two_vessels(alloc)?;
-    change_last(&mut parts.crudes, change)?;
-    Ok(refusal(alloc, parts))
 }
 
 #[test]
-fn refuses_a_horizon(rt: HostRuntime) -> Result<(), Fail> {
-    for horizon in [0, 100_001] {
-        let mut parts = two_vessels(rt.alloc())?;
-        parts.horizon = horizon;
-        let found = refusal(rt.alloc(), parts);
+fn refuses_each_kind_of_fault(rt: HostRuntime) -> Result<(), Fail> {
+    for (sample, number, section, index, key) in faults() {
+        let place = Place {
+            section: *section,
+            index: *index,
+            key: *key,
+        };
+        let wanted = PlantFault {
+            number: *number,
+            place,
+        };
         assert_eq!(rt;
-            found,
-            fault(1, Section::Plant, 0, Key::Horizon),
-            "horizon {horizon}"
+            refusal(rt.alloc(), *sample)?,
+            Some(wanted),
+            "fault {number}"
         );
     }
-    Ok(())
-}
-
-#[test]
-fn refuses_crudes(rt: HostRuntime) -> Result<(), Fail> {
-    let found = with_crude(rt.alloc(), |crude| crude.margin = 1_000_001)?;
-    assert_eq!(rt; found, fault(10, Section::Crudes, 2, Key::Margin));
-    let found = with_crude(rt.alloc(), |crude| drop(crude.properties.pop()))?;
-    assert_eq!(rt; found, fault(11, Section::Crudes, 2, Key::Properties));
     Ok(())
 }

@@ -25,7 +25,9 @@ const CHANGED: &[Case] = &[
         "shape plant 0 horizon",
     ),
     ("\"horizon\":2,", "", "shape plant 0 horizon"),
-    ("\"format\":1", "\"format\":2", "shape plant 0 format"),
+    ("\"format\":1", "\"format\":3", "plant"),
+    ("\"format\":1", "\"format\":0", "shape plant 0 format"),
+    ("\"format\":1", "\"format\":4", "shape plant 0 format"),
     ("\"format\":1", "\"format\":true", "shape plant 0 format"),
     ("\"format\":1", "\"Format\":1", "shape plant 0 format"),
     (
@@ -94,6 +96,34 @@ const CHANGED: &[Case] = &[
 
 pub fn changed_parts() -> &'static [Case] {
     CHANGED
+}
+
+// The same of the sample plant with a vessel, whose form is told before what cannot be served yet.
+const BERTHED: &[Case] = &[
+    ("\"berth\":1", "\"berth\":12", "plant"),
+    (
+        "\"format\":2,\"vessels\":[{\"berth\":1,",
+        "\"format\":1,\"vessels\":[{",
+        "plant",
+    ),
+    ("\"berth\":1,", "", "shape vessels 1 berth"),
+    (
+        "\"berth\":1",
+        "\"berth\":1,\"demurrage\":0",
+        "shape vessels 1 entry",
+    ),
+    ("\"format\":2", "\"format\":1", "shape vessels 1 entry"),
+    ("\"format\":2", "\"format\":3", "shape vessels 1 demurrage"),
+    ("\"berth\":1", "\"berth\":13", "23 vessels 1 berth"),
+    (
+        "\"format\":2,\"vessels\":[{",
+        "\"format\":3,\"vessels\":[{\"demurrage\":1001,",
+        "24 vessels 1 demurrage",
+    ),
+];
+
+pub fn changed_berths() -> &'static [Case] {
+    BERTHED
 }
 
 type Text = (&'static [u8], &'static str);

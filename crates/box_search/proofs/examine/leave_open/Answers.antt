@@ -10,4 +10,5 @@ returns-clause-state c =
     let given = ap (λ v. greater c.args.search.now.bound (Some v)) (to_z-of_z w64 c.args.value c.ranges.value) in
     let up = greater_is c.args.search.now.bound (Some c.args.value) c.settle.new.search.bound (c.settle.ensures.bound ∙ given) in
     rw (c.settle.ensures.rest, c.open_leaf.ensures)
-    (IsSearch-open c.args.plant.now c.args.slots c.args.budget c.args.search.now c.args.pending c.requires.state c.args.value c.settle.new.search.bound c.requires.value c.requires.spent c.requires.several up)
+    (IsSearch-open c.args.plant.now c.args.slots c.args.budget c.args.search.now c.args.pending c.requires.state c.args.value c.settle.new.search.bound
+    c.requires.value c.requires.spent c.requires.several up)

@@ -1,5 +1,5 @@
 use Rattle.std.proofs.Common.{◌+◌, ◌-◌, ◌*◌, length}
-use Rattle.box_search.specs.Searching.{IsSearch}
+use Rattle.box_search.specs.inside.Searching.{IsSearch}
 use Rattle.box_search.proofs.search.search_boxes.Given as goal
 
 abbrev pub invariant-loop-pending : goal.invariant-loop-pending

@@ -6,8 +6,10 @@ use Rattle.crude_amounts.proofs.DrawLaws.{draw_from_push}
 use Rattle.crude_amounts.proofs.cells.draw_each.Goals as goal
 
 -- the draw of one more crude, where so many were drawn
-one_more : (total volume i reached : ℕ) (cells drawn : List ℕ) → i < length cells → i < length drawn → reached ≡ sum (take i cells) → take i drawn ≡ draw_from total volume 0 (take i cells) →
-    take (i + 1) (set drawn i (share_of total volume (reached + get_or cells i 0) - share_of total volume reached)) ≡ draw_from total volume 0 (take (i + 1) cells)
+one_more : (total volume i reached : ℕ) (cells drawn : List ℕ) → i < length cells → i < length drawn → reached ≡ sum (take i cells) → take i drawn
+    ≡ draw_from total volume 0 (take i cells) →
+    take (i + 1) (set drawn i (share_of total volume (reached + get_or cells i 0) - share_of total volume reached))
+    ≡ draw_from total volume 0 (take (i + 1) cells)
 one_more total volume i reached cells drawn within room so_far done =
     let part = λ (n : ℕ). (share_of total volume (n + get_or cells i 0) - share_of total volume n) ∷ [] in
     let from : reached ≡ 0 + sum (take i cells) = omega arith in
@@ -31,7 +33,8 @@ loop-c-preserved c =
     record {
       reached = (let grown = sum_by_more (λ x. x) cells i 0 within in omega arith);
       taken = c.share-next.ensures.value;
-      drawn = ap (λ n. take (i + 1) (set c.loop-c.drawn i n)) parts ∙ one_more total volume i c.loop-c.reached cells c.loop-c.drawn within room c.loop-c.invariant.reached c.loop-c.invariant.drawn;
+      drawn = ap (λ n. take (i + 1) (set c.loop-c.drawn i n)) parts ∙ one_more total volume i c.loop-c.reached cells c.loop-c.drawn within room
+          c.loop-c.invariant.reached c.loop-c.invariant.drawn;
     }
 
 pub returns : goal.returns

@@ -10,7 +10,9 @@ loop-i-preserved c =
     let number = c.in_ok-line.ensures.number in
     rw pushed
     (record {
-      so_far = plan_of-push c.args.plant.now c.loop-i.lines c.in_ok-line.line ∙ ap₂ (λ xs x. xs ++ x ∷ []) c.loop-i.invariant.so_far c.in_ok-line.ensures.operation ∙ sym (take_more c.args.plan.now c.loop-i.i _ c.loop-i-test.true);
+      so_far = plan_of-push c.args.plant.now c.loop-i.lines c.in_ok-line.line
+          ∙ ap₂ (λ xs x. xs ++ x ∷ []) c.loop-i.invariant.so_far c.in_ok-line.ensures.operation
+          ∙ sym (take_more c.args.plan.now c.loop-i.i _ c.loop-i-test.true);
       numbered = AreOpLines-push 1 c.loop-i.lines c.in_ok-line.line c.loop-i.invariant.numbered (omega arith) c.in_ok-line.ensures.form;
       count = length-append c.loop-i.lines (c.in_ok-line.line ∷ []) ∙ omega arith;
     })

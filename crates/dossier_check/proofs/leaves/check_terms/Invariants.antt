@@ -1,8 +1,11 @@
 use Rattle.std.proofs.Common.{◌≡◌, drop}
 use Rattle.item_lists.specs.Faults.{first_of}
+use Rattle.dossier_check.specs.Frames.{setting_of}
 use Rattle.dossier_check.specs.NodeReasons.{terms_reasons}
 use Rattle.dossier_check.proofs.leaves.check_terms.Given as goal
 
 -- nothing stands against the entries so far, so that the first is that of those that are left
 abbrev pub invariant-loop-term : goal.invariant-loop-term
-invariant-loop-term l = first_of (terms_reasons l.cuts l.line (drop l.term-index l.terms)) ≡ first_of (terms_reasons l.cuts l.line l.terms)
+invariant-loop-term l =
+    first_of (terms_reasons (setting_of l.plant l.dossier) l.line (drop l.term-index l.terms)) ≡ first_of
+    (terms_reasons (setting_of l.plant l.dossier) l.line l.terms)

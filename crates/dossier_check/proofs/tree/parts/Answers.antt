@@ -12,4 +12,5 @@ returns-in-Ok-clause-reasons c =
 pub returns-in-Err-BadSplit-clause-reasons : goal.returns-in-Err-BadSplit-clause-reasons
 returns-in-Err-BadSplit-clause-reasons c =
     rw c.at.ensures
-    (ap (λ test. first_of (unless test (reason 6 c.args.line))) (refused_by_test c.args.bx.now c.args.split c.len.ensures.shape (c.split.ensures.bad.0 (search rules))))
+    (ap (λ test. first_of (unless test (reason 6 c.args.line)))
+    (refused_by_test c.args.bx.now c.args.split c.len.ensures.shape (c.split.ensures.bad.0 (search rules))))

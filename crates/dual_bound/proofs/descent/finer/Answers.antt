@@ -10,7 +10,8 @@ loop-y-preserved c =
     let i = c.loop-y.y-index in
     let there : i < length xs = search rules in
     let more : c.max-greatest.result ≡ max c.loop-y.greatest (get_or xs i 0) = search rules in
-    let weaker = All-weaker (λ (y : ℕ). y ≤ c.loop-y.greatest) (λ (y : ℕ). y ≤ c.max-greatest.result) (λ y below. omega (arith, below, more)) (take i xs) c.loop-y.invariant.each in
+    let weaker = All-weaker (λ (y : ℕ). y ≤ c.loop-y.greatest) (λ (y : ℕ). y ≤ c.max-greatest.result) (λ y below. omega (arith, below, more))
+    (take i xs) c.loop-y.invariant.each in
     let within : get_or xs i 0 ≤ 2 ^ 32 = c.requires.multipliers i 0 there in
     record {
       q = omega (arith, c.loop-y.invariant.q, more);

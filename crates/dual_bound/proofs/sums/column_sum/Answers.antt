@@ -2,7 +2,7 @@ use Rattle.std.proofs.Common.{◌≡◌, ◌+◌, ◌-◌, ◌≤◌, ◌+ℤ◌
 use Rattle.std.specs.Int.{w128}
 use Rattle.number_laws.specs.SignedSums.{total_below}
 use Rattle.number_laws.proofs.SignedSumLaws.{abs-sum}
-use Rattle.dual_bound.specs.Dual.{weight_of, most_in, range_at}
+use Rattle.dual_bound.specs.inside.Systems.{earned_in}
 use Rattle.dual_bound.proofs.RoomLaws.{blocks-more}
 use Rattle.dual_bound.proofs.StoredNumbers.{read-mag}
 use Rattle.dual_bound.proofs.sums.column_sum.Goals as goal
@@ -12,7 +12,7 @@ pub loop-from-preserved : goal.loop-from-preserved
 loop-from-preserved c =
     let from = c.loop-from.from in
     let to = c.if-count-from-lt-BLOCK.to in
-    let f = λ (j : ℕ). most_in (range_at c.args.ranges.now j) (weight_of c.args.ranges.now.extent c.args.rows.now c.args.objective.now c.args.multipliers.now c.args.q j) in
+    let f = λ (j : ℕ). earned_in c.args.system.now c.args.multipliers.now c.args.q j in
     let order : (from ≤ to) × (to ≤ length c.ends-count.result.now) =
     elim c.if-count-from-lt-BLOCK.branch [
       | then-count-from-lt-BLOCK w ↦ (omega arith, omega arith)

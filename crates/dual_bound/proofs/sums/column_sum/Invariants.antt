@@ -1,12 +1,12 @@
 use Rattle.std.proofs.Common.{◌-◌, ◌≡◌, ◌*◌, ◌^◌, ◌≤◌, unsigned_abs}
 use Rattle.number_laws.specs.SignedSums.{total_below}
-use Rattle.dual_bound.specs.Dual.{weight_of, most_in, range_at}
+use Rattle.dual_bound.specs.inside.Systems.{earned_in}
 use Rattle.dual_bound.proofs.sums.column_sum.Given as goal
 
 abbrev pub invariant-loop-from : goal.invariant-loop-from
 invariant-loop-from l = record {
   there : l.from ≤ l.count;
-  value : l.sum ≡ total_below l.from (λ j. most_in (range_at l.ranges j) (weight_of l.ranges.extent l.rows l.objective l.multipliers l.q j));
+  value : l.sum ≡ total_below l.from (λ j. earned_in l.system l.multipliers l.q j);
   size : unsigned_abs l.sum ≤ l.from * 2 ^ 104;
 }
 

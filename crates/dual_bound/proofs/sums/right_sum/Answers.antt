@@ -25,7 +25,9 @@ loop-r-preserved c =
     let sizes = abs-sum (to_z w128 c.loop-r.sum-bits) c.scaled.result in
     let before = c.loop-r.invariant.value in
     record {
-      value = whole ∙ (plus ∙ (ap (λ (z : ℤ). z +ℤ c.scaled.result) before ∙ (ap (λ (z : ℤ). weighed_right (take c.loop-r.r ys) (take c.loop-r.r rows) +ℤ z) (value ∙ sym last) ∙ sym more)));
+      value = whole ∙ (plus ∙ (ap (λ (z : ℤ). z +ℤ c.scaled.result) before
+          ∙ (ap (λ (z : ℤ). weighed_right (take c.loop-r.r ys) (take c.loop-r.r rows) +ℤ z) (value ∙ sym last) ∙ sym more)));
       size = rw (whole, plus) (omega (arith, sizes, c.loop-r.invariant.size, c.scaled.ensures.size));
-      once = All-more (λ (form : RowForm). HasEachOnce form.terms) rows c.loop-r.r row c.loop-r-test.true c.loop-r.invariant.once (rw (← c.index-rows-r.is) c.right.ensures.once);
+      once = All-more (λ (form : RowForm). HasEachOnce form.terms) rows c.loop-r.r row c.loop-r-test.true c.loop-r.invariant.once
+          (rw (← c.index-rows-r.is) c.right.ensures.once);
     }

@@ -1,5 +1,5 @@
 use Rattle.std.proofs.Common.{◌+◌, ◌^◌, ◌≤◌, ◌*ℤ◌, take, unsigned_abs, All}
-use Rattle.dual_bound.specs.Cells.{Adds}
+use Rattle.dual_bound.specs.inside.Cells.{Adds}
 use Rattle.dual_bound.specs.Dual.{factor_of}
 use Rattle.dual_bound.proofs.weigh.add_terms.Given as goal
 

@@ -1,5 +1,5 @@
 use Rattle.std.proofs.Common.{◌+◌, take, neg_ℤ, All}
-use Rattle.dual_bound.specs.Cells.{Adds, HasSmallFactors}
+use Rattle.dual_bound.specs.inside.Cells.{Adds, HasSmallFactors}
 use Rattle.dual_bound.specs.Dual.{weighed_factor}
 use Rattle.dual_bound.proofs.weigh.take_rows.Given as goal
 

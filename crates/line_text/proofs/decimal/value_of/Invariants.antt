@@ -1,5 +1,5 @@
 use Rattle.std.proofs.Common.{◌≡◌, drop}
-use Rattle.line_text.specs.Decimal.{value_after}
+use Rattle.line_text.specs.inside.Digits.{value_after}
 use Rattle.line_text.proofs.decimal.value_of.Given as goal
 
 -- the digits left, after the value so far, give what all of them give

@@ -9,7 +9,7 @@ invariant-loop-done g l =
     record {
       within : l.done ≤ length l.text;
       takes : Takes (sink.taken l.fn.out) (sink.taken l.out) (take l.done l.text);
-      faults : sink.faults l.fn.out ≤ sink.faults l.out;
+      faults : sink.faults l.out ≡ sink.faults l.fn.out;
       untouched : l.text ≡ [] → l.out ≡ l.fn.out;
     }
 

@@ -7,4 +7,5 @@ pub returns : goal.returns
 unfolding ops_of
 returns c =
     c.loop-operation.invariant
-    ∙ ap (map (resolved c.args.parts.now)) (take_all c.loop-operation.operation-index c.as_slice-operation-items.result.now c.loop-operation-test.false ∙ c.as_slice-operation-items.ensures)
+    ∙ ap (map (resolved c.args.parts.now))
+    (take_all c.loop-operation.operation-index c.as_slice-operation-items.result.now c.loop-operation-test.false ∙ c.as_slice-operation-items.ensures)

@@ -12,7 +12,8 @@ use Rattle.plant_model.proofs.SeenParts.{faults_seen, seen_twice}
 use Rattle.plant_model.proofs.plant.make.Goals as goal
 
 -- the test that found nothing
-sound_seen : (seen : Parts) (tested : Result (Unit {0}) PlantFault) (u : Unit {0}) → result_err tested ≡ first_of (faults_of seen) → tested ≡ Ok u → IsSound seen
+sound_seen : (seen : Parts) (tested : Result (Unit {0}) PlantFault) (u : Unit {0}) → result_err tested ≡ first_of (faults_of seen) → tested ≡ Ok u
+    → IsSound seen
 sound_seen seen tested u first ok = nil_of_none (faults_of seen) (sym first ∙ ap result_err ok)
 
 -- so nothing is wrong with the parts as they were given
@@ -39,8 +40,10 @@ invariant_of-result c =
 
 pub returns-in-Ok-clause-refusal : goal.returns-in-Ok-clause-refusal
 returns-in-Ok-clause-refusal c =
-    sound_given c.args.parts c.without_storage_demand-parts.result c.without_storage_demand-parts.ensures (sound_seen _ _ _ c.first_fault.ensures c.in_default.is)
+    sound_given c.args.parts c.without_storage_demand-parts.result c.without_storage_demand-parts.ensures
+    (sound_seen _ _ _ c.first_fault.ensures c.in_default.is)
 
 pub returns-in-Err-resolve_all-clause-refusal : goal.returns-in-Err-resolve_all-clause-refusal
 returns-in-Err-resolve_all-clause-refusal c =
-    sound_given c.args.parts c.without_storage_demand-parts.result c.without_storage_demand-parts.ensures (sound_seen _ _ _ c.first_fault.ensures c.in_default.is)
+    sound_given c.args.parts c.without_storage_demand-parts.result c.without_storage_demand-parts.ensures
+    (sound_seen _ _ _ c.first_fault.ensures c.in_default.is)

@@ -20,7 +20,8 @@ loop-c-preserved c =
     record {
       count = ap length c.set.ensures ∙ length-set amounts i c.into.result ∙ c.loop-c.invariant.count;
       done = below_more (λ (k : ℕ). get_or c.set.new.self k 0 ≡ initial_of c.args.plant.now c.args.p k) i
-          (λ k below. let other : k ≢ i = omega arith in ap (λ xs. get_or xs k 0) c.set.ensures ∙ get_or-set_other amounts i k c.into.result 0 other ∙ c.loop-c.invariant.done k below)
+          (λ k below. let other : k ≢ i = omega arith in ap (λ xs. get_or xs k 0) c.set.ensures ∙ get_or-set_other amounts i k c.into.result 0 other
+          ∙ c.loop-c.invariant.done k below)
           (ap (λ xs. get_or xs i 0) c.set.ensures ∙ get_or-set_same amounts i c.into.result 0 within ∙ c.into.ensures ∙ c.initial.ensures.value);
       total = omega arith;
     }

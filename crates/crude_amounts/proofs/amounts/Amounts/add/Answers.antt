@@ -23,4 +23,9 @@ returns c =
     let count = length-take-le inside.count inside.cells (omega arith) in
     let whole : length c.add_each.new.cells ≡ inside.count = c.add_each.auto.cells ∙ count in
     let value = amounts_in-front inside.count inside.cells c.add_each.new.cells whole ∙ written c in
-    record { value = value; total = ap sum value ∙ sum-mix_of c.args.self.now c.args.other.now c.requires.lengths; crudes = ap length value ∙ length-mix_of c.args.self.now c.args.other.now }
+    record {
+      value = value;
+      total = ap sum value ∙ sum-mix_of c.args.self.now c.args.other.now c.requires.lengths;
+      crudes = ap length value
+          ∙ length-mix_of c.args.self.now c.args.other.now;
+    }

@@ -11,7 +11,8 @@ use Rattle.crude_amounts.proofs.amounts.Amounts.drawn.Goals as goal
 drawn_is : (held seen drawn : List ℕ) (volume : ℕ) → drawn ≡ draw_of seen volume → seen ≡ held → drawn ≡ draw_of held volume
 drawn_is held seen drawn volume is same = is ∙ ap (λ amounts. draw_of amounts volume) same
 
-drawn_count : (held drawn cells : List ℕ) (count volume : ℕ) → drawn ≡ draw_of held volume → take count cells ≡ held → count ≤ length cells → length drawn ≡ count
+drawn_count : (held drawn cells : List ℕ) (count volume : ℕ) → drawn ≡ draw_of held volume → take count cells ≡ held → count ≤ length cells → length drawn
+    ≡ count
 drawn_count held drawn cells count volume is seen room =
     ap length is ∙ length-draw_of held volume ∙ ap length (sym seen) ∙ length-take-le count cells room
 

@@ -30,7 +30,11 @@ rest_count c = c.take_each.auto.cells ∙ length-take-le c.self.inside.count c.s
 rest_total : (c : After-take_each) → sum (rest_of c.args.self.now c.args.drawn.now) + sum c.args.drawn.now ≡ sum c.args.self.now
 rest_total c =
     sum-rest_of c.args.self.now c.args.drawn.now c.requires.lengths
-    (λ i. elim (cases_lt i (length c.args.drawn.now)) [ inl within ↦ c.requires.there i within | inr past ↦ let none = get_or_past c.args.drawn.now i 0 past in omega arith ])
+    (λ i. elim (cases_lt i (length c.args.drawn.now)) [
+      | inl within ↦ c.requires.there i within
+      | inr past ↦ let none = get_or_past c.args.drawn.now i 0 past in
+          omega arith
+    ])
 
 pub invariant_of-self : goal.invariant_of-self
 invariant_of-self c =

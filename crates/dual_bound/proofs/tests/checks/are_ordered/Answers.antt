@@ -8,7 +8,8 @@ use Rattle.dual_bound.proofs.tests.checks.are_ordered.Goals as goal
 pub loop-range-preserved : goal.loop-range-preserved
 loop-range-preserved c =
     let there : c.loop-range.range-index < length c.args.ends.now = search rules in
-    let here : (get_or c.args.ends.now c.loop-range.range-index zero_alone).lo ≤ℤ (get_or c.args.ends.now c.loop-range.range-index zero_alone).hi = search rules in
+    let here : (get_or c.args.ends.now c.loop-range.range-index zero_alone).lo ≤ℤ (get_or c.args.ends.now c.loop-range.range-index zero_alone).hi =
+    search rules in
     All-more (λ (range : Interval). range.lo ≤ℤ range.hi) c.args.ends.now c.loop-range.range-index zero_alone there c.loop-range.invariant here
 
 pub returns : goal.returns

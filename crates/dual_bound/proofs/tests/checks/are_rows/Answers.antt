@@ -16,9 +16,12 @@ loop-r-preserved c =
     let size = rw read at c.unsigned_abs.ensures.value in
     let right : unsigned_abs row.right < 2 ^ 60 = omega (arith, size, c.if-unsigned_abs.false) in
     record {
-      columns = All-more (λ (form : RowForm). AreColumns c.args.ranges.now.extent form.terms) c.args.rows.now c.loop-r.r row c.loop-r-test.true c.loop-r.invariant.columns (rw (← c.index-rows-r.is) columns);
-      small = All-more (λ (form : RowForm). AreSmall c.args.ranges.now form.terms) c.args.rows.now c.loop-r.r row c.loop-r-test.true c.loop-r.invariant.small (rw (← c.index-rows-r.is) small);
-      rights = All-more (λ (form : RowForm). unsigned_abs form.right < 2 ^ 60) c.args.rows.now c.loop-r.r row c.loop-r-test.true c.loop-r.invariant.rights (rw (← c.index-rows-r.is) right);
+      columns = All-more (λ (form : RowForm). AreColumns c.args.ranges.now.extent form.terms) c.args.rows.now c.loop-r.r row c.loop-r-test.true
+          c.loop-r.invariant.columns (rw (← c.index-rows-r.is) columns);
+      small = All-more (λ (form : RowForm). AreSmall c.args.ranges.now form.terms) c.args.rows.now c.loop-r.r row c.loop-r-test.true c.loop-r.invariant.small
+          (rw (← c.index-rows-r.is) small);
+      rights = All-more (λ (form : RowForm). unsigned_abs form.right < 2 ^ 60) c.args.rows.now c.loop-r.r row c.loop-r-test.true c.loop-r.invariant.rights
+          (rw (← c.index-rows-r.is) right);
     }
 
 pub returns-clause-columns : goal.returns-clause-columns

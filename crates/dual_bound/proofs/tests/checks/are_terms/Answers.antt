@@ -18,8 +18,10 @@ loop-term-preserved c =
     let column : IsColumn c.args.ranges.now.extent term.column = search rules in
     let small : unsigned_abs term.factor * reach_of (range_of c.args.ranges.now term.column) < 2 ^ 60 = search rules in
     record {
-      columns = All-more (λ (t : RowTerm). IsColumn c.args.ranges.now.extent t.column) c.args.terms.now c.loop-term.term-index nothing there c.loop-term.invariant.columns column;
-      small = All-more (λ (t : RowTerm). unsigned_abs t.factor * reach_of (range_of c.args.ranges.now t.column) < 2 ^ 60) c.args.terms.now c.loop-term.term-index nothing there
+      columns = All-more (λ (t : RowTerm). IsColumn c.args.ranges.now.extent t.column) c.args.terms.now c.loop-term.term-index nothing there
+          c.loop-term.invariant.columns column;
+      small = All-more (λ (t : RowTerm). unsigned_abs t.factor * reach_of (range_of c.args.ranges.now t.column) < 2 ^ 60) c.args.terms.now
+          c.loop-term.term-index nothing there
           c.loop-term.invariant.small small;
     }
 

@@ -1,5 +1,5 @@
 use Rattle.std.proofs.Common.{◌<◌, length, ap, sym, ◌∙◌, arith}
-use Rattle.line_text.specs.Words.{words_left}
+use Rattle.line_text.specs.inside.Rest.{words_left}
 use Rattle.line_text.proofs.WordLaws.{words_of-last, words_of-first}
 use Rattle.line_text.proofs.words.WordsIterator.next.Goals as goal
 

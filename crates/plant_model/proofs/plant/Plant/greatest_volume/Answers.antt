@@ -1,5 +1,4 @@
-use Rattle.std.proofs.Common.{◌≡◌, length, ap, sym, ◌∙◌}
-use Rattle.plant_model.specs.Parts.{ops_of}
+use Rattle.std.proofs.Common.{length, ap, sym, ◌∙◌}
 use Rattle.plant_model.proofs.GreatestVolume.{greatest_volume-le}
 use Rattle.plant_model.proofs.plant.Plant.greatest_volume.Goals as goal
 

@@ -4,4 +4,9 @@ use Rattle.plant_model.proofs.plant.Plant.limit.Goals as goal
 
 pub bounds-as_slice-k : goal.bounds-as_slice-k
 bounds-as_slice-k c =
-    omega (arith, charge_limits c.args.self.now c.args.v c.operation.result.now c.requires.op c.operation.ensures.at c.operation.ensures.sound c.requires.charge, ap length c.as_slice.ensures)
+    omega (
+      arith,
+      charge_limits c.args.self.now c.args.v c.operation.result.now c.requires.op
+          c.operation.ensures.at c.operation.ensures.sound c.requires.charge,
+      ap length c.as_slice.ensures,
+    )

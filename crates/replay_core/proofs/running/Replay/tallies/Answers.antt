@@ -1,7 +1,7 @@
 use Rattle.std.proofs.Common.{List, sym, subst}
 use Rattle.replay_core.specs.declared.tally.Tally.{Tally}
 use Rattle.replay_core.specs.Replayed.{Replayed}
-use Rattle.replay_core.specs.Tally.{AreTallies}
+use Rattle.replay_core.specs.inside.Tally.{AreTallies}
 use Rattle.replay_core.proofs.running.Replay.tallies.Goals as goal
 
 pub returns : goal.returns

@@ -1,12 +1,16 @@
-use Rattle.std.proofs.Common.{◌↔◌, ◌<◌, ◌≤◌, ℕ, IsTrue, get_or, subst}
+use Rattle.std.proofs.Common.{◌↔◌, ◌≡◌, IsTrue, subst, ◌∙◌}
 use Rattle.plant_model.specs.declared.parts.Parts.{Parts}
-use Rattle.plant_model.specs.Parts.{op_count_of}
-use Rattle.plant_model.specs.Relations.{refused_at_once_of}
-use Rattle.replay_core.proofs.OrderLaws.{waits_is}
+use Rattle.replay_core.specs.declared.latest.Relation.TheVariants.{AtOnce}
+use Rattle.replay_core.specs.inside.Latest.{end_of, NoneIsLater}
+use Rattle.replay_core.specs.Rules.{waits_for_others}
+use Rattle.replay_core.proofs.OrderLaws.{none_later_is}
 use Rattle.replay_core.proofs.running.Replay.waits_for_others.Goals as goal
 
 pub returns : goal.returns
+unfolding waits_for_others
 returns c =
+    let parts = c.args.self.now.parts in
     let t = c.args.t in
-    waits_is c.args.self.now.parts c.args.self.now.steps t c.ends.result.now c.have_ended.result c.steps.ensures.accepted c.ends.ensures
-    (subst (λ (parts : Parts). IsTrue c.have_ended.result ↔ ((v : ℕ) → v < op_count_of parts → IsTrue (refused_at_once_of parts v t.op) → get_or c.ends.result.now v 0 ≤ t.start)) c.plant.ensures c.have_ended.ensures)
+    none_later_is parts c.args.self.now.order c.args.self.now.steps end_of AtOnce t.op t.start c.ends.result.now c.none_is_later.result c.steps.ensures.can_run
+    c.ends.ensures
+    (subst (λ (p : Parts). IsTrue c.none_is_later.result ↔ NoneIsLater p AtOnce t.op c.ends.result.now t.start) c.plant.ensures c.none_is_later.ensures)

@@ -12,4 +12,5 @@ returns-clause-some c = λ op.
 pub returns-clause-runs : goal.returns-clause-runs
 returns-clause-runs c =
     let at = c.slot.ensures.value in
-    fixed_runs c.args.self.now c.args.i c.fixed.result c.requires.from_one c.requires.there (rw (← at) c.slot.ensures.shape) (c.fixed.ensures ∙ ap fixed_of at)
+    fixed_runs c.args.self.now c.args.i c.fixed.result c.requires.from_one c.requires.there (rw (← at) c.slot.ensures.shape)
+    (c.fixed.ensures ∙ ap fixed_of at)

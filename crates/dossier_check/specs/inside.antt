@@ -1,0 +1,3 @@
+-- What only carries the proofs of functions and loops.
+pub mod Tests
+pub mod Walks

@@ -1,0 +1,3 @@
+-- What only loops and helpers of this crate keep.
+pub mod Digits
+pub mod Rest

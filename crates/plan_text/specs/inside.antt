@@ -1,0 +1,2 @@
+-- What only the reader of a line keeps.
+pub mod Fields

@@ -1,0 +1,19 @@
+ghost use Rattle.std.specs.Prelude.{ℕ};
+ghost use Rattle.slot_forms.specs.Cases.{PlainCasesSayTheSame, PlainRootsAreBoxes, plain};
+ghost use Rattle.slot_forms.specs.Forms.{PlansHaveForms};
+
+use plant_model::Plant;
+use replay_core::legal_plan_laws;
+use slot_box::box_laws;
+
+/// What is so of the plain cases of the plant and their slot forms, for whoever reasons about them: a call
+/// does nothing and brings the laws.
+pub fn form_laws(plant: &Plant)
+    ensures boxes { PlainRootsAreBoxes plant.now }
+    ensures forms { (n : ℕ) → PlansHaveForms (plain plant.now n) }
+    ensures same { PlainCasesSayTheSame plant.now }
+{
+    plant.sound();
+    legal_plan_laws();
+    box_laws();
+}
