@@ -1,13 +1,15 @@
 ghost use Rattle.std.specs.Prelude.{◌≡◌, ℕ, ◌+◌, ◌-◌, ◌<◌, ◌≤◌, ◌^◌, length, sum, replicate, slice_index, slice_set, EachIndex};
+ghost use Rattle.limits.specs.declared.TheConstants.{MOST_AMOUNT, MOST_CRUDES};
 
 use crate::cells::{add_each, draw_each, take_each, total, weigh};
+use limits::MOST_CRUDES;
 use std::marker::Model;
 
-/// Volume units of each crude of a plant: of 1 to 12 crudes, at most 2^40 units in all.
+/// Volume units of each crude of a plant, at most [`limits::MOST_AMOUNT`] units in all.
 #[derive(Clone, Copy, Debug, PartialEq, Eq)]
 pub struct Amounts {
     count: u8,
-    cells: [u64; 12],
+    cells: [u64; MOST_CRUDES as usize],
 }
 
 impl Model for Amounts {
@@ -38,20 +40,20 @@ impl Amounts {
     /// Nothing of each of `m` crudes.
     pub fn zero(m: u8) -> Amounts
         requires some { 1 ≤ m }
-        requires most { m ≤ 12 }
+        requires most { m ≤ MOST_CRUDES }
         ensures { result ≡ replicate m 0 }
     {
         Amounts {
             count: m,
-            cells: [0; 12],
+            cells: [0; MOST_CRUDES as usize],
         }
     }
 
     fn cells(&self) -> &[u64]
         ensures value { result.now ≡ self.now }
         ensures some { 1 ≤ length self.now }
-        ensures most { length self.now ≤ 12 }
-        ensures total { sum self.now ≤ 2 ^ 40 }
+        ensures most { length self.now ≤ MOST_CRUDES }
+        ensures total { sum self.now ≤ MOST_AMOUNT }
     {
         &self.cells[..self.count as usize]
     }
@@ -60,7 +62,7 @@ impl Amounts {
     pub fn len(&self) -> u8
         ensures value { result ≡ length self.now }
         ensures some { 1 ≤ result }
-        ensures most { result ≤ 12 }
+        ensures most { result ≤ MOST_CRUDES }
     {
         self.count
     }
@@ -75,7 +77,7 @@ impl Amounts {
 
     pub fn set(&mut self, c: u8, amount: u64)
         requires crude { c < length self.old }
-        requires total { sum (slice_set self.old c amount) ≤ 2 ^ 40 }
+        requires total { sum (slice_set self.old c amount) ≤ MOST_AMOUNT }
         ensures { self.new ≡ slice_set self.old c amount }
     {
         self.cells[c as usize] = amount;
@@ -83,7 +85,7 @@ impl Amounts {
 
     pub fn total(&self) -> u64
         ensures value { result ≡ sum self.now }
-        ensures most { result ≤ 2 ^ 40 }
+        ensures most { result ≤ MOST_AMOUNT }
     {
         total(self.cells())
     }
@@ -91,7 +93,7 @@ impl Amounts {
     /// Adds so much of each crude.
     pub fn add(&mut self, other: &Amounts)
         requires lengths { length other.now ≡ length self.old }
-        requires total { sum self.old + sum other.now ≤ 2 ^ 40 }
+        requires total { sum self.old + sum other.now ≤ MOST_AMOUNT }
         ensures value { self.new ≡ mix_of self.old other.now }
         ensures total { sum self.new ≡ sum self.old + sum other.now }
         ensures crudes { length self.new ≡ length self.old }
@@ -110,7 +112,7 @@ impl Amounts {
         ensures there { EachIndex result (λ c. slice_index result c ≤ slice_index self.now c) }
         ensures near { IsNearlyShared self.now volume result }
     {
-        let mut cells = [0; 12];
+        let mut cells = [0; MOST_CRUDES as usize];
         draw_each(self.cells(), volume, &mut cells[..self.count as usize]);
         Amounts {
             count: self.count,
@@ -165,7 +167,7 @@ mod tests {
 
     /// The amounts, crude by crude.
     fn amounts_of(rt: &impl Abort, list: &[u64]) -> Amounts {
-        assert!(rt; !list.is_empty() && list.len() <= 12);
+        assert!(rt; !list.is_empty() && list.len() <= usize::from(MOST_CRUDES));
         let mut amounts = Amounts::zero(list.len() as u8);
         for (c, amount) in list.iter().enumerate() {
             assert!(rt; c < usize::from(amounts.len()));

@@ -1,4 +1,5 @@
 ghost use Rattle.std.specs.Prelude.{◌≡◌, ℕ, ◌+◌, ◌*◌, ◌/◌, ◌<◌, ◌≤◌, ◌^◌, length, sum, EachIndex, slice_index, pos, neg_ℤ, ◌*ℤ◌, ◌≤ℤ◌};
+ghost use Rattle.limits.specs.declared.TheConstants.{MOST_AMOUNT};
 ghost use Rattle.crude_amounts.specs.Draw.{share_of, draw_of};
 ghost use Rattle.crude_amounts.specs.Amounts.{mix_of, rest_of, weighted_of};
 
@@ -62,7 +63,7 @@ pub fn add_each(cells: &mut [u64], more: &[u64])
 
 /// The amount times its weight.
 fn product(amount: u64, weight: i64) -> i128
-    requires { amount ≤ 2 ^ 40 }
+    requires { amount ≤ MOST_AMOUNT }
     ensures value { result ≡ weight *ℤ pos amount }
     ensures low { neg_ℤ (pos (2 ^ 63 * amount)) ≤ℤ result }
     ensures high { result ≤ℤ pos (2 ^ 63 * amount) }
@@ -73,7 +74,7 @@ fn product(amount: u64, weight: i64) -> i128
 /// The sum of the cells, each times its weight.
 pub fn weigh(cells: &[u64], weights: &[i64]) -> i128
     requires lengths { length weights.now ≡ length cells.now }
-    requires total { sum cells.now ≤ 2 ^ 40 }
+    requires total { sum cells.now ≤ MOST_AMOUNT }
     ensures { result ≡ weighted_of cells.now weights.now }
 {
     let mut sum = 0;

@@ -1,9 +1,9 @@
 //! The limits of the planner, each by one name.
 //!
 //! To the crates above this crate promises only its numbers: what a plant, a plan, a search, a dossier or a file
-//! may come to at most. Every clause and every definition that speaks of a limit cites its name from here, so that a
-//! limit stands in one place and a reader finds it by its word. Minutes, volume units and margins are meant where a
-//! line does not say otherwise.
+//! may come to at most. Clauses and definitions cite a limit by its name from here, so that it stands in one place and
+//! a reader finds it by its word; a number that only keeps arithmetic within its width stands where it is used. Minutes,
+//! volume units and margins are meant where a line does not say otherwise.
 //!
 //! Begin with the plant's, which the other limits follow from.
 #![tactic(auto)]
@@ -43,6 +43,9 @@ pub const MOST_DEMURRAGE: u32 = 1_000;
 /// The greatest volume, level or demand, and the most that a vessel or tank holds at first, in volume units.
 pub const MOST_VOLUME: u32 = 10_000_000;
 
+/// The most that amounts of crudes may come to in all while they are added up, in volume units.
+pub const MOST_AMOUNT: u64 = 1_099_511_627_776;
+
 /// The greatest rate, in volume units for each 1440 minutes.
 pub const MOST_RATE: u32 = 10_000_000;
 
@@ -54,7 +57,7 @@ pub const MOST_PROPERTY: u32 = 1_000_000;
 
 // ---- plans and their search
 
-/// The most slots of a search, and so the most operations of a plan that it may find.
+/// The most slots of a search, and so the most operations of a plan that it may find. A unit has no more charges.
 pub const MOST_SLOTS: u8 = 40;
 
 /// The most operations of a plan that is replayed.
@@ -94,7 +97,7 @@ pub const MOST_OWN_CUTS: u32 = 256;
 /// The greatest denominator of a cut.
 pub const MOST_CUT_DENOMINATOR: u32 = 1_024;
 
-/// The greatest weight of a cut, and its greatest multiplier, in absolute value.
+/// The greatest weight of a cut, and its greatest `p`, in absolute value.
 pub const MOST_CUT_WEIGHT: u32 = 1_048_576;
 
 // ---- files

@@ -17,17 +17,20 @@ impl Model for Automaton {
 
     ghost view = { λ automaton. automaton.independent };
 
-    ghost invariant = { λ automaton. length automaton.independent ≤ 48 };
+    ghost use Rattle.limits.specs.declared.TheConstants.{MOST_OPERATIONS};
+
+    ghost invariant = { λ automaton. length automaton.independent ≤ MOST_OPERATIONS };
 }
 
 impl Automaton {
     ghost use Rattle.std.specs.Prelude.{◌≡◌, ◌^◌, ◌<◌, ◌≤◌, ◌↔◌, length, All, IfOk, IfSome, IsNone, IsBitSet};
+    ghost use Rattle.limits.specs.declared.TheConstants.{MOST_OPERATIONS};
     ghost use Rattle.slot_automaton.specs.Normal.{IsNormal, IsFirstRefused};
     ghost use Rattle.slot_automaton.specs.Blocked.{next_blocked, IsNextBlocked};
 
     /// The automaton of these masks: bit `a` of mask `b` says that `a` is independent of `b`.
     pub fn new(alloc: Global, independent: &[u64]) -> Result<Automaton, AllocError>
-        requires { length independent.now ≤ 48 }
+        requires { length independent.now ≤ MOST_OPERATIONS }
         ensures { IfOk result (λ automaton. automaton ≡ independent.now) }
     {
         Ok(Automaton {
