@@ -22,7 +22,7 @@ mod writing;
 
 pub use fault::PlantTextFault;
 pub use names::{key_name, section_name};
-pub use print::{print_place, print_plant};
+pub use print::{plant_text_laws, print_place, print_plant};
 pub use read::read_plant;
 
 #[cfg(test)]
