@@ -45,6 +45,8 @@ IsUtf8-number (negative (negsuc n)) h = IsUtf8-from_ascii _ (IsAscii-signed (neg
 IsUtf8-number (float x) h = absurd h
 
 mutual
+  unfolding member_text
+
   pub IsUtf8-plain : (d : Data) → IsPlain d → IsUtf8 (text_of d)
   IsUtf8-plain null h = absurd h
   IsUtf8-plain (boolean true) h = IsUtf8-are_ascii _ refl

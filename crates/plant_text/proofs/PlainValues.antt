@@ -82,6 +82,7 @@ escape-name s e = escape-bytes s (and_parts _ _ e).1
 -- the text of a member, with what follows it
 one_member : (k value told rest written : List ℕ) → IsTrue (is_name k) → value ≡ told → rest ≡ written
     → (34 ∷ (escape k ++ 34 ∷ [])) ++ 58 ∷ (value ++ rest) ≡ member_text k told ++ written
+unfolding member_text
 one_member k value told rest written name same follows =
     rw (escape-name k name, same, follows) (sym (append_assoc (quoted k) (58 ∷ told) written))
 

@@ -12,8 +12,10 @@
 
 mod entries;
 mod entry;
+mod entry_writers;
 mod fault;
 mod kinds;
+mod members;
 mod names;
 mod print;
 mod read;
