@@ -63,9 +63,11 @@ mutual
 
   all_members : (ms : Members) → MembersArePlain ms → AllByRecursion IsUtf8 (member_texts ms)
   all_members no_members h = tt
-  all_members (member k d ms) h =
-      (IsUtf8-append (quoted k) (58 ∷ text_of d) (IsUtf8-quoted k h.0)
-      (IsUtf8-append (58 ∷ []) (text_of d) (IsUtf8-are_ascii (58 ∷ []) refl) (IsUtf8-plain d h.1)), all_members ms h.2)
+  all_members (member k d ms) h = (
+    IsUtf8-append (quoted k) (58 ∷ text_of d) (IsUtf8-quoted k h.0)
+        (IsUtf8-append (58 ∷ []) (text_of d) (IsUtf8-are_ascii (58 ∷ []) refl) (IsUtf8-plain d h.1)),
+    all_members ms h.2,
+  )
 
 -- with a line feed behind it
 pub IsUtf8-line : (d : Data) → IsPlain d → IsUtf8 (text_of d ++ 10 ∷ [])

@@ -46,12 +46,32 @@ crude_plain crude h =
 vessel_plain : (format : PlantFormat) (vessel : VesselPart) → FitsVessel format vessel → IsPlain (vessel_value format vessel)
 vessel_plain One vessel h =
     (refl, h.name, (refl, whole_plain vessel.arrival h.arrival, (refl, numbers_plain vessel.amounts h.amounts, tt)))
-vessel_plain Two vessel h =
-    (refl, h.name, (refl, whole_plain vessel.arrival h.arrival, (refl, numbers_plain vessel.amounts h.amounts,
-    (refl, whole_plain vessel.berth h.berth, tt))))
-vessel_plain Three vessel h =
-    (refl, h.name, (refl, whole_plain vessel.arrival h.arrival, (refl, numbers_plain vessel.amounts h.amounts,
-    (refl, whole_plain vessel.berth h.berth, (refl, whole_plain vessel.demurrage h.demurrage, tt)))))
+vessel_plain Two vessel h = (
+  refl,
+  h.name,
+  (
+    refl,
+    whole_plain vessel.arrival h.arrival,
+    (
+      refl,
+      numbers_plain vessel.amounts h.amounts,
+      (refl, whole_plain vessel.berth h.berth, tt),
+    ),
+  ),
+)
+vessel_plain Three vessel h = (
+  refl,
+  h.name,
+  (
+    refl,
+    whole_plain vessel.arrival h.arrival,
+    (
+      refl,
+      numbers_plain vessel.amounts h.amounts,
+      (refl, whole_plain vessel.berth h.berth, (refl, whole_plain vessel.demurrage h.demurrage, tt)),
+    ),
+  ),
+)
 
 tank_plain : (tank : TankPart) (others : Members) → FitsTank tank → MembersArePlain others → IsPlain (tank_value tank others)
 tank_plain tank others h rest =
@@ -68,9 +88,27 @@ unit_plain : (part : UnitPart) → FitsUnit part → IsPlain (unit_value part)
 unit_plain part h = (refl, h.name, (refl, tt, (refl, pair_plain part.charges h.charges, tt)))
 
 operation_plain : (operation : OperationPart) → FitsOperation operation → IsPlain (operation_value operation)
-operation_plain operation h =
-    (refl, h.name, (refl, h.from, (refl, h.to, (refl, pair_plain operation.rate h.rate, (refl, pair_plain operation.volume h.volume,
-    (refl, pair_plain operation.window h.window, (refl, pairs_plain operation.limits h.limits, tt)))))))
+operation_plain operation h = (
+  refl,
+  h.name,
+  (
+    refl,
+    h.from,
+    (
+      refl,
+      h.to,
+      (
+        refl,
+        pair_plain operation.rate h.rate,
+        (
+          refl,
+          pair_plain operation.volume h.volume,
+          (refl, pair_plain operation.window h.window, (refl, pairs_plain operation.limits h.limits, tt)),
+        ),
+      ),
+    ),
+  ),
+)
 
 format_plain : (format : PlantFormat) → IsPlain (number (unsigned (format_number format)))
 format_plain One = omega arith
@@ -79,15 +117,42 @@ format_plain Three = omega arith
 
 pub plant_plain : (format : PlantFormat) (parts : Parts) → FitsParts format parts → IsPlain (plant_value format parts)
 plant_plain format parts h = (
-  refl, format_plain format, (
-  refl, whole_plain parts.horizon h.horizon, (
-  refl, list_plain string IsName (λ name is. is) parts.properties h.properties, (
-  refl, list_plain crude_value FitsCrude crude_plain parts.crudes h.crudes, (
-  refl, list_plain (vessel_value format) (FitsVessel format) (vessel_plain format) parts.vessels h.vessels, (
-  refl, list_plain storage_value FitsStorage storage_plain parts.storage h.storage, (
-  refl, list_plain charging_value FitsCharging charging_plain parts.charging h.charging, (
-  refl, list_plain unit_value FitsUnit unit_plain parts.units h.units, (
-  refl, list_plain operation_value FitsOperation operation_plain parts.operations h.operations, tt)))))))))
+  refl,
+  format_plain format,
+  (
+    refl,
+    whole_plain parts.horizon h.horizon,
+    (
+      refl,
+      list_plain string IsName (λ name is. is) parts.properties h.properties,
+      (
+        refl,
+        list_plain crude_value FitsCrude crude_plain parts.crudes h.crudes,
+        (
+          refl,
+          list_plain (vessel_value format) (FitsVessel format) (vessel_plain format) parts.vessels h.vessels,
+          (
+            refl,
+            list_plain storage_value FitsStorage storage_plain parts.storage h.storage,
+            (
+              refl,
+              list_plain charging_value FitsCharging charging_plain parts.charging h.charging,
+              (
+                refl,
+                list_plain unit_value FitsUnit unit_plain parts.units h.units,
+                (
+                  refl,
+                  list_plain operation_value FitsOperation operation_plain parts.operations h.operations,
+                  tt,
+                ),
+              ),
+            ),
+          ),
+        ),
+      ),
+    ),
+  ),
+)
 
 -- ---- how deep lists and objects nest
 

@@ -94,16 +94,28 @@ unfolding vessel_at
 vessel_read One index vessel h =
     rw (whole_read vessel.arrival h.arrival, numbers_read vessel.amounts h.amounts)
     (λ i. Ok (record {
-      name = vessel.name; arrival = vessel.arrival; amounts = vessel.amounts; berth = sym h.told.0 i; demurrage = sym h.told.1 i;
+      name = vessel.name;
+      arrival = vessel.arrival;
+      amounts = vessel.amounts;
+      berth = sym h.told.0 i;
+      demurrage = sym h.told.1 i;
     }))
 vessel_read Two index vessel h =
     rw (whole_read vessel.arrival h.arrival, numbers_read vessel.amounts h.amounts, whole_read vessel.berth h.berth)
     (λ i. Ok (record {
-      name = vessel.name; arrival = vessel.arrival; amounts = vessel.amounts; berth = vessel.berth; demurrage = sym h.told i;
+      name = vessel.name;
+      arrival = vessel.arrival;
+      amounts = vessel.amounts;
+      berth = vessel.berth;
+      demurrage = sym h.told i;
     }))
 vessel_read Three index vessel h =
-    rw (whole_read vessel.arrival h.arrival, numbers_read vessel.amounts h.amounts, whole_read vessel.berth h.berth,
-    whole_read vessel.demurrage h.demurrage) refl
+    rw (
+      whole_read vessel.arrival h.arrival,
+      numbers_read vessel.amounts h.amounts,
+      whole_read vessel.berth h.berth,
+      whole_read vessel.demurrage h.demurrage,
+    ) refl
 
 pub record FitsTank (tank : TankPart) : Type 0 where
   pub name : IsName tank.name
@@ -151,8 +163,12 @@ operation_read : (index : ℕ) (operation : OperationPart) → FitsOperation ope
     → operation_at index (sorted (operation_value operation)) ≡ Ok operation
 unfolding operation_at
 operation_read index operation h =
-    rw (pair_read operation.rate h.rate, pair_read operation.volume h.volume, pair_read operation.window h.window,
-    pairs_read operation.limits h.limits) refl
+    rw (
+      pair_read operation.rate h.rate,
+      pair_read operation.volume h.volume,
+      pair_read operation.window h.window,
+      pairs_read operation.limits h.limits,
+    ) refl
 
 property_read : (index : ℕ) (name : List ℕ) → IsName name → property_at index (sorted (string name)) ≡ Ok name
 unfolding property_at

@@ -1,7 +1,7 @@
 ghost use Rattle.std.specs.Prelude.{◌≡◌, Ok, ◌∷◌, ◌++◌, pos, map, IfOk, OnOk};
 ghost use Rattle.plant_text.specs.Canonical.{behind_commas, with_commas, has_demurrage, has_berths, format_for, format_number, section_text, front_members, place_members, plant_text_of, place_text_of};
 ghost use Rattle.plant_text.specs.PlantText.{plant_of};
-ghost use Rattle.plant_text.specs.Laws.{PlantsAreReadBack, TextsTellPlants};
+ghost use Rattle.plant_text.specs.Laws.{PlantsAreReadBack, AcceptedPlantsAreReadBack, TextsTellPlants};
 
 use crate::entry_writers::{
     ChargingWriter, CrudeWriter, OperationWriter, StorageWriter, UnitWriter, VesselWriter,
@@ -73,7 +73,12 @@ fn write_front(out: &mut Vec<u8>, format: PlantFormat, parts: &Parts) -> Result<
 {
     number_member(out, b'{', Key::Format, format_number(format))?;
     number_member(out, b',', Key::Horizon, parts.horizon)?;
-    write_section(out, Section::Properties, &NameWriter, parts.properties.as_slice())?;
+    write_section(
+        out,
+        Section::Properties,
+        &NameWriter,
+        parts.properties.as_slice(),
+    )?;
     write_section(out, Section::Crudes, &CrudeWriter, parts.crudes.as_slice())
 }
 
@@ -82,9 +87,24 @@ fn write_front(out: &mut Vec<u8>, format: PlantFormat, parts: &Parts) -> Result<
 fn write_places(out: &mut Vec<u8>, format: PlantFormat, parts: &Parts) -> Result<(), AllocError>
     ensures { OnOk result (out.new.items ≡ out.old.items ++ behind_commas (place_members format parts.now)) }
 {
-    write_section(out, Section::Vessels, &VesselWriter { format }, parts.vessels.as_slice())?;
-    write_section(out, Section::Storage, &StorageWriter, parts.storage.as_slice())?;
-    write_section(out, Section::Charging, &ChargingWriter, parts.charging.as_slice())?;
+    write_section(
+        out,
+        Section::Vessels,
+        &VesselWriter { format },
+        parts.vessels.as_slice(),
+    )?;
+    write_section(
+        out,
+        Section::Storage,
+        &StorageWriter,
+        parts.storage.as_slice(),
+    )?;
+    write_section(
+        out,
+        Section::Charging,
+        &ChargingWriter,
+        parts.charging.as_slice(),
+    )?;
     write_section(out, Section::Units, &UnitWriter, parts.units.as_slice())
 }
 
@@ -95,7 +115,12 @@ fn write_plant(out: &mut Vec<u8>, parts: &Parts) -> Result<(), AllocError>
     let format = format_for(parts.vessels.as_slice());
     write_front(out, format, parts)?;
     write_places(out, format, parts)?;
-    write_section(out, Section::Operations, &OperationWriter, parts.operations.as_slice())?;
+    write_section(
+        out,
+        Section::Operations,
+        &OperationWriter,
+        parts.operations.as_slice(),
+    )?;
     push_text(out, b"}\n")
 }
 
@@ -125,5 +150,6 @@ pub fn print_place(alloc: Global, place: &Place) -> Result<Vec<u8>, AllocError>
 /// when it runs.
 pub fn plant_text_laws()
     ensures read_back { PlantsAreReadBack }
+    ensures accepted { AcceptedPlantsAreReadBack }
     ensures one_plant { TextsTellPlants }
 {}
