@@ -1,12 +1,11 @@
 -- A plant in which nothing is wrong can be told: its words are names, and its numbers are small.
-use Rattle.std.proofs.Common.{◌≡◌, ◌∙◌, sym, ap, refl, ℕ, zero, suc, ◌+◌, ◌^◌, ◌<◌, ◌≤◌, Bool, true, false, cond, ◌&&◌, ◌||◌, not, IsTrue, List, [], ◌∷◌, map, length, drop, get_or, arith}
+use Rattle.std.proofs.Common.{◌≡◌, ◌∙◌, sym, ap, refl, ℕ, suc, ◌^◌, ◌<◌, Bool, true, false, cond, not, List, [], ◌∷◌, map, length, drop, get_or, arith}
 use Rattle.std.proofs.lemmas.Bool.{or_parts, not-false}
 use Rattle.std.proofs.lemmas.Bool.Decides.{Decides-int_eq}
 use Rattle.std.proofs.lemmas.Int.{ints}
 use Rattle.std.proofs.lemmas.List.Sums.{passes_at_first}
 use Rattle.std.proofs.lemmas.Slice.Eq.{bytes_eq-Decides}
 use Rattle.std.specs.Prelude.{ℤ, pos, negsuc, neg_ℤ, ◌≤ℤ◌}
-use Rattle.std.specs.Int.Signed.{mag}
 use Rattle.std.specs.List.{AllByRecursion, list_any}
 use Rattle.std.specs.Str.{bytes_eq}
 use Rattle.std.specs.Ordering.{int_eq}
@@ -26,7 +25,7 @@ use Rattle.plant_model.specs.declared.place.Section.TheVariants.{Properties, Cru
 use Rattle.plant_model.specs.Faults.{IsSound, name_faults, all_name_faults}
 use Rattle.plant_model.specs.Parts.{seen_parts, without_demand, place_count_of, place_names_of, place_name_of, place_by_name_of}
 use Rattle.plant_model.specs.Sound.{SoundPlant}
-use Rattle.plant_model.specs.inside.SoundParts.{IsWithin, IsPairWithin, AreWithin, SoundCrude, SoundVessel, SoundTank, SoundOperation, SoundParts}
+use Rattle.plant_model.specs.inside.SoundParts.{IsPairWithin, AreWithin, SoundVessel, SoundTank, SoundOperation, SoundParts}
 use Rattle.plant_model.proofs.NoFaults.{none_stand, sound_parts}
 use Rattle.plant_model.proofs.OpsAreSound.{ends_within}
 use Rattle.plant_model.proofs.PlaceLists.{length-per_place}

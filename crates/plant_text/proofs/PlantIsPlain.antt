@@ -1,10 +1,9 @@
 -- The value of a plant that can be told is plain, and not deep.
-use Rattle.std.proofs.Common.{◌≡◌, ℕ, suc, max, ◌≤◌, ℤ, pos, negsuc, List, [], ◌∷◌, map, refl, arith}
+use Rattle.std.proofs.Common.{ℕ, ◌≤◌, ℤ, pos, negsuc, List, [], ◌∷◌, map, refl, arith}
 use Rattle.std.specs.Prelude.{codes}
 use Rattle.std.specs.List.{AllByRecursion}
 use Rattle.json.specs.Tree as tree
-use Rattle.serde_json.specs.Data.{unsigned, Data, number, string, Items, no_items, item, Members, no_members, member}
-use Rattle.serde_json.specs.Find.{of_integer}
+use Rattle.serde_json.specs.Data.{unsigned, Data, number, string, Members, no_members, member}
 use Rattle.serde_json.specs.View.{items_of}
 use Rattle.serde_json.specs.Written.{outline, items_outline}
 use Rattle.plant_model.specs.declared.parts.Pair.{Pair}
@@ -17,7 +16,7 @@ use Rattle.plant_model.specs.declared.parts.OperationPart.{OperationPart}
 use Rattle.plant_text.specs.declared.kinds.PlantFormat.{PlantFormat}
 use Rattle.plant_text.specs.declared.kinds.PlantFormat.TheVariants.{One, Two, Three}
 use Rattle.plant_text.specs.Canonical.{format_number}
-use Rattle.plant_text.proofs.PlainValues.{IsSmallNumber, IsPlain, ArePlain, MembersArePlain}
+use Rattle.plant_text.proofs.PlainValues.{IsPlain, ArePlain, MembersArePlain}
 use Rattle.plant_text.proofs.PlantValues.{whole, list_value, pair_value, crude_value, vessel_value, tank_value, storage_value, charging_value, unit_value, operation_value, plant_value}
 use Rattle.plant_text.proofs.WalkLaws.{IsSmall, AreSmall, IsSmallPair, IsName, FitsCrude, FitsVessel, FitsTank, FitsStorage, FitsCharging, FitsUnit, FitsOperation, FitsParts}
 

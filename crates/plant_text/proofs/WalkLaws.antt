@@ -1,10 +1,8 @@
 -- The walk over the value of a plant finds the parts of the plant.
-use Rattle.std.proofs.Common.{◌≡◌, IsTrue, ℕ, ◌^◌, ◌<◌, ℤ, pos, negsuc, Bool, true, false, List, [], ◌∷◌, map, Option, Some, None, Result, Ok, Err, refl, sym, ap, ◌∙◌, arith, lt-ltb}
-use Rattle.std.specs.Prelude.{codes}
+use Rattle.std.proofs.Common.{◌≡◌, IsTrue, ℕ, ◌^◌, ◌<◌, ℤ, pos, negsuc, List, [], ◌∷◌, map, Option, Some, Result, Ok, refl, sym, lt-ltb}
 use Rattle.std.specs.Int.Signed.{mag}
 use Rattle.std.specs.List.{AllByRecursion}
-use Rattle.std.specs.Option.{ok_or}
-use Rattle.serde_json.specs.Data.{Data, string, Items, no_items, item}
+use Rattle.serde_json.specs.Data.{Data, string}
 use Rattle.serde_json.specs.View.{items_of}
 use Rattle.plant_model.specs.declared.parts.Pair.{Pair}
 use Rattle.plant_model.specs.declared.parts.Parts.{Parts}
@@ -18,7 +16,7 @@ use Rattle.plant_text.specs.declared.fault.PlantTextFault.{PlantTextFault}
 use Rattle.plant_text.specs.declared.kinds.PlantFormat.{PlantFormat}
 use Rattle.plant_text.specs.declared.kinds.PlantFormat.TheVariants.{One, Two, Three}
 use Rattle.plant_text.specs.Kinds.{whole_number, each_in, whole_numbers, pair, pairs}
-use Rattle.plant_text.specs.Walk.{◌>>=◌, field, crude_at, property_at, vessel_at, storage_at, charging_at, unit_at, operation_at, entries_from, sections_of, parts_of, next_index}
+use Rattle.plant_text.specs.Walk.{crude_at, property_at, vessel_at, storage_at, charging_at, unit_at, operation_at, entries_from, sections_of, parts_of, next_index}
 use Rattle.plant_text.proofs.PlainValues.{sorted, sorted_items}
 use Rattle.plant_text.proofs.PlantValues.{whole, list_value, pair_value, crude_value, vessel_value, storage_value, charging_value, unit_value, operation_value, plant_value}
 

@@ -1,5 +1,3 @@
-use Rattle.std.proofs.Common.{◌∙◌, ap, refl}
-use Rattle.plant_text.specs.PlantText.{plant_of}
 use Rattle.plant_text.proofs.TextLaws.{read_back}
 use Rattle.plant_text.proofs.print.print_plant.Goals as goal
 
