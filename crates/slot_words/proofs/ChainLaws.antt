@@ -83,3 +83,20 @@ pub same_entries : (parts : Parts) (word other : List Timed) → AreEquivalent p
 same_entries parts word other (itself first) = IsPermutation-refl first
 same_entries parts word other (swapped first next last swap rest) =
     IsPermutation-trans first next last (swap_entries parts first next swap) (same_entries parts next last rest)
+
+swap_ahead : (parts : Parts) (word other back : List Timed) → IsSwap parts word other → IsSwap parts (word ++ back) (other ++ back)
+swap_ahead parts word other back (front, later, s, t, is, other_is, independent) =
+    (
+      front,
+      later ++ back,
+      s,
+      t,
+      ap (λ (first : List Timed). first ++ back) is ∙ append_assoc front (s ∷ t ∷ later) back,
+      ap (λ (first : List Timed). first ++ back) other_is ∙ append_assoc front (t ∷ s ∷ later) back,
+      independent,
+    )
+
+pub ahead : (parts : Parts) (word other back : List Timed) → AreEquivalent parts word other → AreEquivalent parts (word ++ back) (other ++ back)
+ahead parts word other back (itself first) = itself (first ++ back)
+ahead parts word other back (swapped first next last swap rest) =
+    swapped (first ++ back) (next ++ back) (last ++ back) (swap_ahead parts first next back swap) (ahead parts next last back rest)
