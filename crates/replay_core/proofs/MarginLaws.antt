@@ -27,7 +27,7 @@ use Rattle.replay_core.proofs.StateLaws.{drawn-volume}
 
 -- ---- one more operation
 
-earned_from-append : (parts : Parts) (before front back : List Timed) → earned_from parts before (front ++ back) ≡ earned_from parts before front
+pub earned_from-append : (parts : Parts) (before front back : List Timed) → earned_from parts before (front ++ back) ≡ earned_from parts before front
     +ℤ earned_from parts (before ++ front) back
 earned_from-append parts before [] back =
     let same = ap (λ (xs : List Timed). earned_from parts xs back) (append-nil before) in

@@ -1,0 +1,3 @@
+pub mod NormalWords
+pub mod Laws
+pub mod inside

@@ -1,0 +1,9 @@
+pub mod MoveLaws
+pub mod PairLaws
+pub mod AlikeLaws
+pub mod SwapLaws
+pub mod ChainLaws
+pub mod StartLaws
+pub mod SortLaws
+pub mod LawsOfWords
+pub mod WordLaws

@@ -1,0 +1,3 @@
+pub mod Swaps
+pub mod ByStart
+pub mod Laws
