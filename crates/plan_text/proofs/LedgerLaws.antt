@@ -1,6 +1,6 @@
 -- What a ledger tells of its plan.
-use Rattle.std.proofs.Common.{ℤ, ◌≡◌, ℕ, suc, ◌+◌, ◌*◌, ◌<◌, List, [], ◌∷◌, ◌++◌, length, get_or, take, drop, Some, None, refl, sym, ap, subst, ◌∙◌, append_assoc, arith, length-append, get_or-set_other}
-use Rattle.std.specs.Prelude.{All, slice_index_or, codes, decimal}
+use Rattle.std.proofs.Common.{ℤ, ◌≡◌, ℕ, ◌+◌, ◌*◌, ◌<◌, List, [], ◌∷◌, ◌++◌, length, get_or, take, drop, Some, None, refl, sym, ap, subst, ◌∙◌, append_assoc, arith, length-append, get_or-set_other}
+use Rattle.std.specs.Prelude.{All, codes, decimal}
 use Rattle.std.specs.Fmt.{signed_decimal}
 use Rattle.std.proofs.lemmas.List.{append-nil, drop_more, get_or_default, take-append-drop}
 use Rattle.std.proofs.lemmas.List.Elements.{All-head, All-tail}
@@ -25,7 +25,7 @@ use Rattle.replay_core.proofs.RuleLaws.{is_in_range}
 use Rattle.replay_core.proofs.StateLaws.{state_after_push}
 use Rattle.replay_core.proofs.StepLaws.{step_faults_from-append}
 use Rattle.replay_core.proofs.PlaceLists.{length-per_place}
-use Rattle.plan_text.specs.Ledger.{head_lines, place_words, step_lines, step_lines_from, unit_lines, ledger_lines, TellsMargin, TellsStep, IsElsewhere, TellsEnd, holding_words, HasNoLedger, IsLedger, ledger_bytes}
+use Rattle.plan_text.specs.Ledger.{head_lines, step_lines, step_lines_from, unit_lines, ledger_lines, TellsMargin, TellsStep, IsElsewhere, TellsEnd, holding_words, HasNoLedger, IsLedger}
 use Rattle.plan_text.specs.inside.Running.{ran, BreaksStep}
 
 -- ---- the lines of operations

@@ -1,14 +1,14 @@
 -- Texts of lines are read in one way.
-use Rattle.std.proofs.Common.{◌≡◌, ◌≢◌, ◌⊎◌, ℕ, ◌+◌, ◌<◌, ◌≤◌, List, [], ◌∷◌, ◌++◌, length, Some, refl, sym, ap, ap₂, subst, ◌∙◌, append_assoc, arith, inl, inr}
+use Rattle.std.proofs.Common.{◌≡◌, ◌≢◌, ◌⊎◌, ℕ, ◌+◌, ◌≤◌, List, [], ◌∷◌, ◌++◌, length, Some, refl, sym, ap, ap₂, subst, ◌∙◌, append_assoc, arith, inl, inr}
 use Rattle.std.specs.Prelude.{codes}
 use Rattle.std.proofs.lemmas.List.{append-nil}
 use Rattle.std.proofs.lemmas.Option.{same_Some}
 use Rattle.limits.specs.declared.TheConstants.{MOST_STEPS}
-use Rattle.line_text.specs.Words.{words_of, line_of, parts_at}
+use Rattle.line_text.specs.Words.{words_of, parts_at}
 use Rattle.line_text.proofs.WordLaws.{words_of-line_of, text_of-first_line}
 use Rattle.plan_text.specs.declared.op_line.OpLine.{OpLine}
 use Rattle.plan_text.specs.OpLine.{op_line_words, op_line_bytes, IsOpLine, op_line_at}
-use Rattle.plan_text.specs.PlanText.{AreOpLines, lines_bytes, IsPlanText, BeginsWithLine, IsFirstBad, ReadOneWay}
+use Rattle.plan_text.specs.PlanText.{AreOpLines, lines_bytes, BeginsWithLine, IsFirstBad, ReadOneWay}
 use Rattle.plan_text.proofs.OpLineLaws.{op_line_at-again, op_line_words-are_words}
 
 -- a line is the bytes before the first line feed

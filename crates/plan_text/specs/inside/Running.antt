@@ -1,5 +1,5 @@
 -- A replay of which a ledger is written.
-use Rattle.std.specs.Prelude.{◌≡◌, ℕ, ◌+◌, List, length, Some, ⊤}
+use Rattle.std.specs.Prelude.{◌≡◌, ◌+◌, List, length, Some, ⊤}
 use Rattle.item_lists.specs.Faults.{first_of}
 use Rattle.plant_model.specs.declared.parts.Parts.{Parts}
 use Rattle.replay_core.specs.declared.timed.Timed.{Timed}

@@ -1,4 +1,4 @@
-use Rattle.std.proofs.Common.{rules, sym, ap, ◌∙◌, ◌++◌}
+use Rattle.std.proofs.Common.{rules}
 use Rattle.plan_text.proofs.LedgerLaws.{ledger_written}
 use Rattle.plan_text.proofs.ledger_text.ledger.Goals as goal
 

@@ -1,4 +1,4 @@
-use Rattle.std.proofs.Common.{refl, take, get_or, subst, sym, ap, ◌≡◌, List}
+use Rattle.std.proofs.Common.{refl, get_or, subst, ap, List}
 use Rattle.std.proofs.lemmas.List.{get_or_default}
 use Rattle.std.proofs.lemmas.Result.{err_from_is_err_and}
 use Rattle.replay_core.specs.declared.timed.Timed.{Timed}

@@ -1,4 +1,4 @@
-use Rattle.std.proofs.Common.{◌≡◌, take, sym, subst, arith, List}
+use Rattle.std.proofs.Common.{◌≡◌, take, subst, arith, List}
 use Rattle.std.specs.Prelude.{All}
 use Rattle.std.proofs.lemmas.List.{take_all}
 use Rattle.replay_core.specs.declared.timed.Timed.{Timed}

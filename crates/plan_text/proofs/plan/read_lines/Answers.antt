@@ -1,4 +1,3 @@
-use Rattle.std.proofs.Common.{rules}
 use Rattle.plan_text.proofs.ReadingLaws.{one_more}
 use Rattle.plan_text.proofs.plan.read_lines.Goals as goal
 

@@ -1,5 +1,4 @@
 use Rattle.std.proofs.Common.{◌-◌}
-use Rattle.limits.specs.declared.TheConstants.{MOST_STEPS}
 use Rattle.plan_text.proofs.ReadingLaws.{AreRead}
 use Rattle.plan_text.proofs.plan.read_lines.Given as goal
 
