@@ -70,6 +70,13 @@ impl Plant {
         make(alloc, parts)
     }
 
+    /// The parts that the plant was made of, where no storage tank has a demand.
+    pub fn as_parts(&self) -> &Parts
+        ensures { result.now ≡ self.now }
+    {
+        self.parts()
+    }
+
     /// The parts, with all that holds of them.
     fn parts(&self) -> &Parts
         ensures value { result.now ≡ self.now }

@@ -6,7 +6,6 @@ use Rattle.std.specs.declared.alloc.Global.{Global}
 use Rattle.std.specs.List.{list_any, list_all}
 use Rattle.std.specs.Str.{bytes_eq}
 use Rattle.plant_text.specs.Walk.{keyed_by}
-use Rattle.plant_text.specs.PlantText.{count_of}
 use Rattle.serde_json.specs.Data.{Data}
 use Rattle.serde_json.specs.View.{view, items_view, members_view}
 use Rattle.serde_json.specs.declared.value.Value.{Value}
@@ -55,8 +54,3 @@ pub keyed_by-keys : (keys : List (List ℕ)) (members : List (String Global × V
     → list_all (λ name. list_any (bytes_eq (string_bytes name)) keys) (map (λ m. m.0) members) ≡ keyed_by keys (members_view members)
 keyed_by-keys keys [] = refl
 keyed_by-keys keys (m ∷ members) = ap (λ b. list_any (bytes_eq (string_bytes m.0)) keys && b) (keyed_by-keys keys members)
-
--- the items of a list of values are as many
-pub count_of-length : (values : List Value) → count_of (items_view values) ≡ length values
-count_of-length [] = refl
-count_of-length (value ∷ values) = ap suc (count_of-length values)

@@ -47,8 +47,6 @@ ends (fault.Shape place) entry_at index values i value front whole within is rea
     sym so_far ∙ failed (fault.Shape place) entry_at index values i value front within is read
 ends (fault.Plant found) entry_at index values i value front whole within is read so_far =
     sym so_far ∙ failed (fault.Plant found) entry_at index values i value front within is read
-ends (fault.NotYet s) entry_at index values i value front whole within is read so_far =
-    sym so_far ∙ failed (fault.NotYet s) entry_at index values i value front within is read
 ends fault.Memory entry_at index values i value front whole within is read so_far = tt
 
 pub is_done : {X : Type 0} (entry_at : ℕ → Data → Result X PlantTextFault) (index : ℕ) (values : List Value) (i : ℕ) (front : List X)

@@ -8,7 +8,6 @@ abbrev pub Fails : {X : Type 0} → PlantTextFault → Result X PlantTextFault �
 Fails fault.Json said = said ≡ Err fault.Json
 Fails (fault.Shape place) said = said ≡ Err (fault.Shape place)
 Fails (fault.Plant found) said = said ≡ Err (fault.Plant found)
-Fails (fault.NotYet s) said = said ≡ Err (fault.NotYet s)
 Fails fault.Memory said = Unit {0}
 
 -- what a reader answered, seen by `seen`, is what the definition says, unless memory ran out

@@ -3,4 +3,6 @@ pub mod Kinds
 pub mod Walk
 pub mod Gives
 pub mod PlantText
+pub mod Canonical
+pub mod Laws
 pub mod Seen

@@ -1,7 +1,7 @@
 ghost use Rattle.std.specs.Prelude.{◌≡◌};
 ghost use Rattle.plant_text.specs.declared.fault.PlantTextFault.TheVariants.{Memory};
 
-use plant_model::{Place, PlantFault, Section};
+use plant_model::{Place, PlantFault};
 use std::alloc::{AllocError, AllocFailed};
 use thiserror::Error;
 
@@ -17,9 +17,6 @@ pub enum PlantTextFault {
     /// The parts have this fault.
     #[error("a fault of the plant")]
     Plant(PlantFault),
-    /// The plant has a form that is not built yet, by the list of this section.
-    #[error("not yet")]
-    NotYet(Section),
     /// Memory ran out.
     #[error("out of memory")]
     Memory,

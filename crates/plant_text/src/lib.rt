@@ -15,11 +15,14 @@ mod entry;
 mod fault;
 mod kinds;
 mod names;
+mod print;
 mod read;
 mod sections;
+mod writing;
 
 pub use fault::PlantTextFault;
 pub use names::{key_name, section_name};
+pub use print::{plant_text_laws, print_place, print_plant};
 pub use read::read_plant;
 
 #[cfg(test)]

@@ -1,10 +1,8 @@
-ghost use Rattle.std.specs.Prelude.{◌≡◌, true};
-ghost use Rattle.std.specs.Result.{result_err};
 ghost use Rattle.item_lists.specs.Faults.{first_of};
 ghost use Rattle.plant_model.specs.Faults.{faults_of};
-ghost use Rattle.serde_json.specs.View.{view, items_view};
+ghost use Rattle.serde_json.specs.View.{view};
 ghost use Rattle.plant_text.specs.Walk.{parts_of};
-ghost use Rattle.plant_text.specs.PlantText.{json_of, count_of, has_count, sections_to_come, built_or, sound_or, plant_of};
+ghost use Rattle.plant_text.specs.PlantText.{json_of, sound_or, plant_of};
 ghost use Rattle.plant_text.specs.Gives.{Gives};
 
 use crate::entries::{
@@ -12,10 +10,8 @@ use crate::entries::{
     VesselEntries, entries,
 };
 use crate::fault::PlantTextFault;
-use crate::names::section_name;
 use crate::sections::sections;
-use item_lists::expect;
-use plant_model::{Parts, Plant, PlantNewFault, Section};
+use plant_model::{Parts, Plant, PlantNewFault};
 use serde_json::Value;
 use std::alloc::Global;
 
@@ -25,7 +21,6 @@ pub fn read_plant(alloc: Global, bytes: &[u8]) -> Result<Plant, PlantTextFault>
     ensures { Gives (λ plant. plant) result (plant_of bytes.now) }
 {
     let whole = json(alloc, bytes)?;
-    built(&whole)?;
     let parts = parts(alloc, &whole)?;
     plant(alloc, parts)
 }
@@ -38,42 +33,6 @@ pub(crate) fn json(alloc: Global, bytes: &[u8]) -> Result<Value, PlantTextFault>
         Err(refused) if refused.is_memory() => Err(PlantTextFault::Memory),
         Err(_) => Err(PlantTextFault::Json),
     }
-}
-
-fn has_count(count: usize, section: Section, whole: &Value) -> bool
-    ensures { result ≡ has_count count section (view whole.now) }
-{
-    match whole.get(section_name(section)).and_then(Value::as_array) {
-        Some(values) => item_count(values) == count,
-        None => true,
-    }
-}
-
-fn item_count(values: &[Value]) -> usize
-    ensures { result ≡ count_of (items_view values.now) }
-{
-    values.len()
-}
-
-/// Refuses a plant of a form that is not built yet.
-fn built(whole: &Value) -> Result<(), PlantTextFault>
-    ensures { Gives (λ _. true) result (built_or (first_of (sections_to_come (view whole.now)))) }
-{
-    first_to_come(whole).map_err(PlantTextFault::NotYet)
-}
-
-fn first_to_come(whole: &Value) -> Result<(), Section>
-    ensures { result_err result ≡ first_of (sections_to_come (view whole.now)) }
-{
-    expect(
-        has_count(0, Section::Properties, whole),
-        Section::Properties,
-    )?;
-    expect(has_count(0, Section::Vessels, whole), Section::Vessels)?;
-    expect(has_count(0, Section::Storage, whole), Section::Storage)?;
-    expect(has_count(1, Section::Charging, whole), Section::Charging)?;
-    expect(has_count(1, Section::Units, whole), Section::Units)?;
-    Ok(())
 }
 
 #[tactic(auto, unfolding(crate::specs::Walk::parts_of))]
