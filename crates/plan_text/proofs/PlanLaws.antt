@@ -4,7 +4,7 @@ use Rattle.std.specs.Prelude.{nat_lt, All, MatchResult, IfOk, OnOk}
 use Rattle.std.proofs.lemmas.Bool.{cases_Bool}
 use Rattle.std.proofs.lemmas.Bool.Decides.{nat_tests}
 use Rattle.std.proofs.lemmas.List.Elements.{All-head, All-tail, All-push}
-use Rattle.std.proofs.lemmas.List.{drop_more, take_more}
+use Rattle.std.proofs.lemmas.List.{drop_more, take_more, length-map}
 use Rattle.limits.specs.declared.TheConstants.{MOST_STEPS}
 use Rattle.plant_model.specs.declared.parts.Parts.{Parts}
 use Rattle.plant_model.specs.Parts.{position_of, op_names_of, op_count_of, op_name_of, op_by_name_of}
@@ -166,3 +166,12 @@ pub sayable_more : (parts : Parts) (plan : List Timed) (i : ℕ) (d : Timed) →
 sayable_more parts plan i d within so_far here =
     subst (λ (ts : List Timed). All (IsSayable parts) ts) (sym (take_more plan i d within))
     (All-push (IsSayable parts) (take i plan) (get_or plan i d) so_far here)
+
+pub few-read : (parts : Parts) (bytes : List ℕ) (read : Result (List Timed) PlanTextFault) → ReadsPlan parts bytes read →
+    IfOk read (λ plan. length plan ≤ MOST_STEPS)
+few-read parts bytes (Ok plan) reads =
+    let count = length-map reads.lines (timed_of parts) in
+    let few = reads.text.few in
+    let same = ap length reads.says in
+    omega arith
+few-read parts bytes (Err fault) reads = tt

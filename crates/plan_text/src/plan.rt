@@ -81,6 +81,7 @@ fn read_lines(alloc: Global, plant: &Plant, bytes: &[u8]) -> Result<Plan, PlanTe
 /// that the replay of the plan tells it.
 pub fn read_plan(alloc: Global, plant: &Plant, bytes: &[u8]) -> Result<Plan, PlanTextFault>
     ensures reads { ReadsPlan plant.now bytes.now result }
+    ensures few { IfOk result (λ plan. length plan ≤ MOST_STEPS) }
     ensures text { IfOk result (λ plan. All (λ t. t.op < op_count_of plant.now) plan
         → bytes.now ≡ plan_bytes plant.now plan) }
     ensures printed { (plan : List Timed) → IsPrintable plant.now plan → bytes.now ≡ plan_bytes plant.now plan
