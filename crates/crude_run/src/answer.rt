@@ -3,8 +3,8 @@ ghost use Rattle.crude_run.specs.Numbers.{status_legal, status_shown};
 ghost use Rattle.crude_run.specs.Texts.{one_line, words_refused, json_refused, shape_refused, fault_refused, read_failed, too_long, accepted, not_accepted, plan_refused, illegal};
 
 use crate::status::{
-    ACCEPTED, ILLEGAL, LEGAL, NOT_ACCEPTED, PLAN_REFUSED, PLANT_REFUSED, READ_FAILED, SHOWN, Status,
-    TOO_LONG, WORDS_REFUSED,
+    ACCEPTED, ILLEGAL, LEGAL, NOT_ACCEPTED, PLAN_REFUSED, PLANT_REFUSED, READ_FAILED, SHOWN,
+    Status, TOO_LONG, WORDS_REFUSED,
 };
 use dossier_text::{Word3, write_claim};
 use item_lists::Copies;

@@ -6,9 +6,7 @@ ghost use Rattle.crude_run.specs.Files.{files_between, bytes, MayGive};
 ghost use Rattle.crude_run.specs.Answered.{OfPlant, OfFile, OfPlantFile};
 ghost use Rattle.crude_run.specs.Stopping.{IfStopped, NoAnswer, MayGivePlant, IsLater, ShowsFaults, stop_of};
 
-use crate::answer::{
-    Answer, fault_refused, json_refused, read_failed, shape_refused, too_long,
-};
+use crate::answer::{Answer, fault_refused, json_refused, read_failed, shape_refused, too_long};
 use crate::files::PLANT_FILE;
 use limits::PLANT_FILE_LIMIT;
 use outer_edge::{Shelf, ShelfFault};

@@ -117,9 +117,7 @@ fn two_files<'a>(words: &'a [String], verb: &str) -> Option<(&'a str, &'a str)>
         → NameTwoFiles verb.now (map string_bytes words.now) first second → ⊥) }
 {
     match words {
-        [word, first, second] => {
-            two_names(verb, word.as_str(), first.as_str(), second.as_str())
-        }
+        [word, first, second] => { two_names(verb, word.as_str(), first.as_str(), second.as_str()) }
         _ => None,
     }
 }
