@@ -33,17 +33,23 @@ fn reads_a_plain_line(rt: HostRuntime) -> Result<(), Fail> {
     Ok(())
 }
 
-/// Whether the line is read as a command that names these files, the second of which may be none.
+/// Whether the command names these files, the second of which may be none.
+fn has_files(command: &Command, wanted: (&str, &str)) -> bool {
+    match command {
+        Command::Check { plant, dossier } => {
+            plant.as_str() == wanted.0 && dossier.as_str() == wanted.1
+        }
+        Command::Replay { plant, plan } => plant.as_str() == wanted.0 && plan.as_str() == wanted.1,
+        Command::Show { plant } => plant.as_str() == wanted.0,
+        Command::Solve { .. } => false,
+    }
+}
+
+/// Whether the line is read as a command that names these files.
 fn names(alloc: Global, line: &str, wanted: (&str, &str)) -> Result<bool, Fail> {
     let words = words(alloc, line)?;
     let command = read_words(alloc, &words)?;
-    let (first, second) = match &command {
-        Command::Check { plant, dossier } => (plant.as_str(), dossier.as_str()),
-        Command::Replay { plant, plan } => (plant.as_str(), plan.as_str()),
-        Command::Show { plant } => (plant.as_str(), ""),
-        Command::Solve { .. } => ("", ""),
-    };
-    Ok(first == wanted.0 && second == wanted.1)
+    Ok(has_files(&command, wanted))
 }
 
 #[test]

@@ -5,6 +5,7 @@ use super::samples::{
     late_vessel, one_berth, one_charge, one_charge_open, two_berths, two_vessels, with,
 };
 use std::alloc::{AllocError, Global};
+use std::process::Abort;
 use std::test::Fail;
 
 const SOLVE: &str = "solve plant --slots 1 --nodes 0 --workers 1";
@@ -97,13 +98,23 @@ fn solved_with(alloc: Global, plant: &str, case: Case) -> Result<Ended, Fail> {
     Ok(solved(alloc, changed.as_bytes())?)
 }
 
+fn assert_refused(
+    rt: &impl Abort,
+    alloc: Global,
+    plant: &str,
+    refused: &[Case],
+) -> Result<(), Fail> {
+    for case in refused {
+        let ended = solved_with(alloc, plant, *case)?;
+        assert!(rt; ended.is(65, case.2), "{case:?}: {ended:?}");
+    }
+    Ok(())
+}
+
 #[test]
 fn refuses_plants(rt: HostRuntime) -> Result<(), Fail> {
     for (plant, refused) in cases() {
-        for case in refused {
-            let ended = solved_with(rt.alloc(), plant, *case)?;
-            assert!(rt; ended.is(65, case.2), "{case:?}: {ended:?}");
-        }
+        assert_refused(&rt, rt.alloc(), plant, refused)?;
     }
     Ok(())
 }

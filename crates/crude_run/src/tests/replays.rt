@@ -6,6 +6,7 @@ use super::samples::{
     two_vessels,
 };
 use std::alloc::{AllocError, Global};
+use std::process::Abort;
 use std::test::Fail;
 
 const REPLAY: &str = "replay plant plan";
@@ -89,13 +90,18 @@ fn cases() -> [(&'static str, &'static [Case]); 6] {
     ]
 }
 
+fn assert_replays(rt: &impl Abort, alloc: Global, plant: &str, plans: &[Case]) -> Result<(), Fail> {
+    for (plan, status, lines) in plans {
+        let ended = replayed(alloc, plant, plan.as_bytes())?;
+        assert!(rt; ended.claims(*status, lines), "{plan}: {ended:?}");
+    }
+    Ok(())
+}
+
 #[test]
 fn replays_plans(rt: HostRuntime) -> Result<(), Fail> {
     for (plant, plans) in cases() {
-        for (plan, status, lines) in plans {
-            let ended = replayed(rt.alloc(), plant, plan.as_bytes())?;
-            assert!(rt; ended.claims(*status, lines), "{plan}: {ended:?}");
-        }
+        assert_replays(&rt, rt.alloc(), plant, plans)?;
     }
     Ok(())
 }
