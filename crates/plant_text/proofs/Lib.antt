@@ -6,3 +6,8 @@ pub mod PlainValues
 pub mod PlainTexts
 pub mod PlantValues
 pub mod WalkLaws
+pub mod PlantIsPlain
+pub mod RoundTrip
+pub mod FitsLaws
+pub mod TextLaws
+pub mod Joining

@@ -1,5 +1,5 @@
 -- Texts of plain values are UTF-8.
-use Rattle.std.proofs.Common.{◌≡◌, ℕ, pos, negsuc, ◌^◌, ◌<◌, Bool, true, false, List, [], ◌∷◌, ◌++◌, IsTrue, refl, ap₂, arith, lt-ltb}
+use Rattle.std.proofs.Common.{◌≡◌, ℕ, pos, negsuc, true, false, List, [], ◌∷◌, ◌++◌, IsTrue, refl, arith, lt-ltb}
 use Rattle.std.proofs.lemmas.Bool.{and_parts, and_from}
 use Rattle.std.proofs.lemmas.Str.{IsUtf8-append, IsUtf8-nil, IsUtf8-from_ascii}
 use Rattle.std.proofs.lemmas.Fmt.{IsAscii-decimal, IsAscii-signed}
@@ -9,7 +9,7 @@ use Rattle.json.proofs.Printed.Utf8.{are_ascii, IsUtf8-are_ascii}
 use Rattle.serde_json.specs.Data.{Num, unsigned, negative, float, Data, null, boolean, number, string, array, object, Items, no_items, item, Members, no_members, member}
 use Rattle.serde_json.specs.Written.{number_text}
 use Rattle.line_text.specs.Name.{is_name_byte, is_name}
-use Rattle.plant_text.specs.Canonical.{behind_commas, with_commas, list_text, object_text, quoted, member_text, flag_text}
+use Rattle.plant_text.specs.Canonical.{behind_commas, with_commas, quoted, member_text}
 use Rattle.plant_text.proofs.PlainValues.{IsSmallNumber, IsPlain, ArePlain, MembersArePlain, text_of, item_texts, member_texts, name_byte}
 
 ascii-bytes : (s : List ℕ) → list_all is_name_byte s ≡ true → are_ascii s ≡ true
@@ -45,6 +45,8 @@ IsUtf8-number (negative (negsuc n)) h = IsUtf8-from_ascii _ (IsAscii-signed (neg
 IsUtf8-number (float x) h = absurd h
 
 mutual
+  unfolding member_text
+
   pub IsUtf8-plain : (d : Data) → IsPlain d → IsUtf8 (text_of d)
   IsUtf8-plain null h = absurd h
   IsUtf8-plain (boolean true) h = IsUtf8-are_ascii _ refl
@@ -61,9 +63,11 @@ mutual
 
   all_members : (ms : Members) → MembersArePlain ms → AllByRecursion IsUtf8 (member_texts ms)
   all_members no_members h = tt
-  all_members (member k d ms) h =
-      (IsUtf8-append (quoted k) (58 ∷ text_of d) (IsUtf8-quoted k h.0)
-      (IsUtf8-append (58 ∷ []) (text_of d) (IsUtf8-are_ascii (58 ∷ []) refl) (IsUtf8-plain d h.1)), all_members ms h.2)
+  all_members (member k d ms) h = (
+    IsUtf8-append (quoted k) (58 ∷ text_of d) (IsUtf8-quoted k h.0)
+        (IsUtf8-append (58 ∷ []) (text_of d) (IsUtf8-are_ascii (58 ∷ []) refl) (IsUtf8-plain d h.1)),
+    all_members ms h.2,
+  )
 
 -- with a line feed behind it
 pub IsUtf8-line : (d : Data) → IsPlain d → IsUtf8 (text_of d ++ 10 ∷ [])

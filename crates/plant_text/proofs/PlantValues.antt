@@ -1,8 +1,8 @@
 -- The JSON value of a plant, with the keys of each entry in the order in which they are written.
-use Rattle.std.proofs.Common.{◌≡◌, ℕ, ℤ, pos, negsuc, Bool, true, false, List, [], ◌∷◌, ◌++◌, map, refl, sym, ap, ap₂, ◌∙◌}
+use Rattle.std.proofs.Common.{◌≡◌, ℕ, ℤ, pos, negsuc, List, [], ◌∷◌, ◌++◌, map, refl, ap, ap₂}
 use Rattle.std.specs.Prelude.{codes, decimal}
 use Rattle.std.specs.Fmt.{signed_decimal}
-use Rattle.serde_json.specs.Data.{Num, unsigned, Data, boolean, number, string, array, object, Items, no_items, item, Members, no_members, member}
+use Rattle.serde_json.specs.Data.{unsigned, Data, boolean, number, string, array, object, Members, no_members, member}
 use Rattle.serde_json.specs.Find.{of_integer}
 use Rattle.serde_json.specs.View.{items_of}
 use Rattle.serde_json.specs.Written.{number_text}
@@ -16,7 +16,7 @@ use Rattle.plant_model.specs.declared.parts.OperationPart.{OperationPart}
 use Rattle.plant_text.specs.declared.kinds.PlantFormat.{PlantFormat}
 use Rattle.plant_text.specs.declared.kinds.PlantFormat.TheVariants.{One, Two, Three}
 use Rattle.plant_model.specs.declared.place.Key.TheVariants as key
-use Rattle.plant_text.specs.Canonical.{member_text, under, flag_text, list_text, object_text, numbers_text, pair_text, crude_text, vessel_text, storage_text, charging_text, unit_text, operation_text, format_number, format_for, plant_members, plant_text_of, quoted}
+use Rattle.plant_text.specs.Canonical.{member_text, under, flag_text, list_text, object_text, numbers_text, pair_text, crude_text, vessel_text, storage_text, charging_text, unit_text, route_members, range_members, operation_text, format_number, format_for, front_members, place_members, plant_text_of, quoted}
 use Rattle.plant_text.proofs.PlainValues.{text_of, item_texts}
 
 -- a whole number
@@ -148,7 +148,7 @@ unit_told part =
     ∷ under key.Charges (pair_told part.charges i) ∷ [])
 
 operation_told : (operation : OperationPart) → text_of (operation_value operation) ≡ operation_text operation
-unfolding operation_text
+unfolding route_members range_members operation_text
 operation_told operation =
     λ i. object_text (under key.Name (quoted operation.name) ∷ under key.From (quoted operation.from) ∷ under key.To (quoted operation.to)
     ∷ under key.Rate (pair_told operation.rate i) ∷ under key.Volume (pair_told operation.volume i)
@@ -156,7 +156,7 @@ operation_told operation =
 
 -- the text of a plant is that of its value, with a line feed behind it
 pub plant_told : (parts : Parts) → text_of (plant_value (format_for parts.vessels) parts) ++ 10 ∷ [] ≡ plant_text_of parts
-unfolding plant_members plant_text_of
+unfolding front_members place_members plant_text_of
 plant_told parts =
     let format = format_for parts.vessels in
     λ i. object_text (under key.Format (decimal (format_number format)) ∷ under key.Horizon (number_text-integer parts.horizon i)

@@ -1,10 +1,8 @@
 -- The walk over the value of a plant finds the parts of the plant.
-use Rattle.std.proofs.Common.{◌≡◌, ℕ, ◌^◌, ◌<◌, ℤ, pos, negsuc, Bool, true, false, List, [], ◌∷◌, map, Option, Some, None, Result, Ok, Err, refl, sym, ap, ◌∙◌, arith, lt-ltb}
-use Rattle.std.specs.Prelude.{codes}
+use Rattle.std.proofs.Common.{◌≡◌, IsTrue, ℕ, ◌^◌, ◌<◌, ℤ, pos, negsuc, List, [], ◌∷◌, map, Option, Some, Result, Ok, refl, sym, lt-ltb}
 use Rattle.std.specs.Int.Signed.{mag}
 use Rattle.std.specs.List.{AllByRecursion}
-use Rattle.std.specs.Option.{ok_or}
-use Rattle.serde_json.specs.Data.{Data, string, Items, no_items, item}
+use Rattle.serde_json.specs.Data.{Data, string}
 use Rattle.serde_json.specs.View.{items_of}
 use Rattle.plant_model.specs.declared.parts.Pair.{Pair}
 use Rattle.plant_model.specs.declared.parts.Parts.{Parts}
@@ -13,11 +11,12 @@ use Rattle.plant_model.specs.declared.parts.VesselPart.{VesselPart}
 use Rattle.plant_model.specs.declared.parts.TankPart.{TankPart}
 use Rattle.plant_model.specs.declared.parts.UnitPart.{UnitPart}
 use Rattle.plant_model.specs.declared.parts.OperationPart.{OperationPart}
+use Rattle.line_text.specs.Name.{is_name}
 use Rattle.plant_text.specs.declared.fault.PlantTextFault.{PlantTextFault}
 use Rattle.plant_text.specs.declared.kinds.PlantFormat.{PlantFormat}
 use Rattle.plant_text.specs.declared.kinds.PlantFormat.TheVariants.{One, Two, Three}
 use Rattle.plant_text.specs.Kinds.{whole_number, each_in, whole_numbers, pair, pairs}
-use Rattle.plant_text.specs.Walk.{◌>>=◌, field, crude_at, property_at, vessel_at, storage_at, charging_at, unit_at, operation_at, entries_from, sections_of, parts_of, next_index}
+use Rattle.plant_text.specs.Walk.{crude_at, property_at, vessel_at, storage_at, charging_at, unit_at, operation_at, entries_from, sections_of, parts_of, next_index}
 use Rattle.plant_text.proofs.PlainValues.{sorted, sorted_items}
 use Rattle.plant_text.proofs.PlantValues.{whole, list_value, pair_value, crude_value, vessel_value, storage_value, charging_value, unit_value, operation_value, plant_value}
 
@@ -58,7 +57,14 @@ entries_read value entry_at P one index [] h = refl
 entries_read value entry_at P one index (x ∷ xs) h =
     rw (one index x h.0, entries_read value entry_at P one (next_index index) xs h.1) refl
 
+-- the word has the form of names
+abbrev pub IsName : List ℕ → Type 0
+IsName word = IsTrue (is_name word)
+
+-- ---- the entries: names and numbers that can be told
+
 pub record FitsCrude (crude : CrudePart) : Type 0 where
+  pub name : IsName crude.name
   pub margin : IsSmall crude.margin
   pub properties : AreSmall crude.properties
 
@@ -73,6 +79,7 @@ Tells Two vessel = vessel.demurrage ≡ pos 0
 Tells Three vessel = Unit {0}
 
 pub record FitsVessel (format : PlantFormat) (vessel : VesselPart) : Type 0 where
+  pub name : IsName vessel.name
   pub arrival : IsSmall vessel.arrival
   pub amounts : AreSmall vessel.amounts
   pub berth : IsSmall vessel.berth
@@ -85,18 +92,31 @@ unfolding vessel_at
 vessel_read One index vessel h =
     rw (whole_read vessel.arrival h.arrival, numbers_read vessel.amounts h.amounts)
     (λ i. Ok (record {
-      name = vessel.name; arrival = vessel.arrival; amounts = vessel.amounts; berth = sym h.told.0 i; demurrage = sym h.told.1 i;
+      name = vessel.name;
+      arrival = vessel.arrival;
+      amounts = vessel.amounts;
+      berth = sym h.told.0 i;
+      demurrage = sym h.told.1 i;
     }))
 vessel_read Two index vessel h =
     rw (whole_read vessel.arrival h.arrival, numbers_read vessel.amounts h.amounts, whole_read vessel.berth h.berth)
     (λ i. Ok (record {
-      name = vessel.name; arrival = vessel.arrival; amounts = vessel.amounts; berth = vessel.berth; demurrage = sym h.told i;
+      name = vessel.name;
+      arrival = vessel.arrival;
+      amounts = vessel.amounts;
+      berth = vessel.berth;
+      demurrage = sym h.told i;
     }))
 vessel_read Three index vessel h =
-    rw (whole_read vessel.arrival h.arrival, numbers_read vessel.amounts h.amounts, whole_read vessel.berth h.berth,
-    whole_read vessel.demurrage h.demurrage) refl
+    rw (
+      whole_read vessel.arrival h.arrival,
+      numbers_read vessel.amounts h.amounts,
+      whole_read vessel.berth h.berth,
+      whole_read vessel.demurrage h.demurrage,
+    ) refl
 
 pub record FitsTank (tank : TankPart) : Type 0 where
+  pub name : IsName tank.name
   pub min : IsSmall tank.min
   pub max : IsSmall tank.max
   pub amounts : AreSmall tank.amounts
@@ -120,11 +140,18 @@ unfolding charging_at
 charging_read index tank h =
     rw (whole_read tank.min h.levels.min, whole_read tank.max h.levels.max, numbers_read tank.amounts h.levels.amounts, pair_read tank.demand h.demand) refl
 
-unit_read : (index : ℕ) (part : UnitPart) → IsSmallPair part.charges → unit_at index (sorted (unit_value part)) ≡ Ok part
+pub record FitsUnit (part : UnitPart) : Type 0 where
+  pub name : IsName part.name
+  pub charges : IsSmallPair part.charges
+
+unit_read : (index : ℕ) (part : UnitPart) → FitsUnit part → unit_at index (sorted (unit_value part)) ≡ Ok part
 unfolding unit_at
-unit_read index part h = rw (pair_read part.charges h) refl
+unit_read index part h = rw (pair_read part.charges h.charges) refl
 
 pub record FitsOperation (operation : OperationPart) : Type 0 where
+  pub name : IsName operation.name
+  pub from : IsName operation.from
+  pub to : IsName operation.to
   pub rate : IsSmallPair operation.rate
   pub volume : IsSmallPair operation.volume
   pub window : IsSmallPair operation.window
@@ -134,25 +161,28 @@ operation_read : (index : ℕ) (operation : OperationPart) → FitsOperation ope
     → operation_at index (sorted (operation_value operation)) ≡ Ok operation
 unfolding operation_at
 operation_read index operation h =
-    rw (pair_read operation.rate h.rate, pair_read operation.volume h.volume, pair_read operation.window h.window,
-    pairs_read operation.limits h.limits) refl
+    rw (
+      pair_read operation.rate h.rate,
+      pair_read operation.volume h.volume,
+      pair_read operation.window h.window,
+      pairs_read operation.limits h.limits,
+    ) refl
 
-property_read : (index : ℕ) (name : List ℕ) → Unit {0} → property_at index (sorted (string name)) ≡ Ok name
+property_read : (index : ℕ) (name : List ℕ) → IsName name → property_at index (sorted (string name)) ≡ Ok name
 unfolding property_at
 property_read index name h = refl
 
-any_properties : (names : List (List ℕ)) → AllByRecursion (λ _. Unit {0}) names
-any_properties [] = tt
-any_properties (name ∷ names) = (tt, any_properties names)
+-- ---- the plant
 
 -- all of a plant, told in the format
 pub record FitsParts (format : PlantFormat) (parts : Parts) : Type 0 where
   pub horizon : IsSmall parts.horizon
+  pub properties : AllByRecursion IsName parts.properties
   pub crudes : AllByRecursion FitsCrude parts.crudes
   pub vessels : AllByRecursion (FitsVessel format) parts.vessels
   pub storage : AllByRecursion FitsStorage parts.storage
   pub charging : AllByRecursion FitsCharging parts.charging
-  pub units : AllByRecursion (λ (part : UnitPart). IsSmallPair part.charges) parts.units
+  pub units : AllByRecursion FitsUnit parts.units
   pub operations : AllByRecursion FitsOperation parts.operations
 
 sections_read : (format : PlantFormat) (parts : Parts) → IsSmall parts.horizon
@@ -176,11 +206,11 @@ pub parts_read : (format : PlantFormat) (parts : Parts) → FitsParts format par
 unfolding parts_of
 parts_read format parts h = rw (
   sections_read format parts h.horizon,
-  entries_read string property_at (λ _. Unit {0}) property_read 1 parts.properties (any_properties parts.properties),
+  entries_read string property_at IsName property_read 1 parts.properties h.properties,
   entries_read crude_value crude_at FitsCrude crude_read 1 parts.crudes h.crudes,
   entries_read (vessel_value format) (vessel_at format) (FitsVessel format) (vessel_read format) 1 parts.vessels h.vessels,
   entries_read storage_value storage_at FitsStorage storage_read 1 parts.storage h.storage,
   entries_read charging_value charging_at FitsCharging charging_read 1 parts.charging h.charging,
-  entries_read unit_value unit_at (λ (part : UnitPart). IsSmallPair part.charges) unit_read 1 parts.units h.units,
+  entries_read unit_value unit_at FitsUnit unit_read 1 parts.units h.units,
   entries_read operation_value operation_at FitsOperation operation_read 1 parts.operations h.operations,
 ) refl

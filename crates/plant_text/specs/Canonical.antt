@@ -45,7 +45,7 @@ abbrev pub quoted : List ℕ → List ℕ
 quoted word = 34 ∷ word ++ 34 ∷ []
 
 -- a member: its key, a colon (58), and the text of its value
-abbrev pub member_text : List ℕ → List ℕ → List ℕ
+unfoldable pub member_text : List ℕ → List ℕ → List ℕ
 member_text name text = quoted name ++ 58 ∷ text
 
 -- what an entry has under a key
@@ -92,22 +92,22 @@ vessel_text format vessel =
     ∷ under key.Amounts (numbers_text vessel.amounts)
     ∷ berthing_members format vessel)
 
--- a tank, with its levels and what it holds at first, and with what else its section tells
-abbrev pub tank_text : TankPart → List (List ℕ) → List ℕ
-tank_text tank others =
-    object_text (under key.Name (quoted tank.name)
+-- what is told of every tank: its levels, and what it holds at first
+abbrev pub tank_members : TankPart → List (List ℕ)
+tank_members tank =
+    under key.Name (quoted tank.name)
     ∷ under key.Min (signed_decimal tank.min)
     ∷ under key.Max (signed_decimal tank.max)
     ∷ under key.Amounts (numbers_text tank.amounts)
-    ∷ others)
+    ∷ []
 
 -- a storage tank
 unfoldable pub storage_text : TankPart → List ℕ
-storage_text tank = tank_text tank []
+storage_text tank = object_text (tank_members tank)
 
 -- a charging tank, with its demand
 unfoldable pub charging_text : TankPart → List ℕ
-charging_text tank = tank_text tank (under key.Demand (pair_text tank.demand) ∷ [])
+charging_text tank = object_text (tank_members tank ++ under key.Demand (pair_text tank.demand) ∷ [])
 
 -- a unit, and how often it is charged
 unfoldable pub unit_text : UnitPart → List ℕ
@@ -117,17 +117,26 @@ unit_text part =
     ∷ under key.Charges (pair_text part.charges)
     ∷ [])
 
--- an operation, by the names of its places, with its ranges
-unfoldable pub operation_text : OperationPart → List ℕ
-operation_text operation =
-    object_text (under key.Name (quoted operation.name)
+-- the name of an operation, and those of its places
+unfoldable pub route_members : OperationPart → List (List ℕ)
+route_members operation =
+    under key.Name (quoted operation.name)
     ∷ under key.From (quoted operation.from)
     ∷ under key.To (quoted operation.to)
-    ∷ under key.Rate (pair_text operation.rate)
+    ∷ []
+
+-- the ranges of an operation
+unfoldable pub range_members : OperationPart → List (List ℕ)
+range_members operation =
+    under key.Rate (pair_text operation.rate)
     ∷ under key.Volume (pair_text operation.volume)
     ∷ under key.Window (pair_text operation.window)
     ∷ under key.Limits (list_text (map pair_text operation.limits))
-    ∷ [])
+    ∷ []
+
+-- an operation
+unfoldable pub operation_text : OperationPart → List ℕ
+operation_text operation = object_text (route_members operation ++ range_members operation)
 
 -- ---- the plant
 
@@ -153,19 +162,29 @@ format_number Three = 3
 abbrev pub section_text : Section → List (List ℕ) → List ℕ
 section_text s entries = member_text (section_name s) (list_text entries)
 
--- the members of a plant, its vessels told as in the format
-unfoldable pub plant_members : PlantFormat → Parts → List (List ℕ)
-plant_members format parts =
+-- the format and the horizon of a plant, its properties and its crudes
+unfoldable pub front_members : PlantFormat → Parts → List (List ℕ)
+front_members format parts =
     under key.Format (decimal (format_number format))
     ∷ under key.Horizon (signed_decimal parts.horizon)
     ∷ section_text section.Properties (map quoted parts.properties)
     ∷ section_text section.Crudes (map crude_text parts.crudes)
-    ∷ section_text section.Vessels (map (vessel_text format) parts.vessels)
+    ∷ []
+
+-- its places, the vessels told as in the format
+unfoldable pub place_members : PlantFormat → Parts → List (List ℕ)
+place_members format parts =
+    section_text section.Vessels (map (vessel_text format) parts.vessels)
     ∷ section_text section.Storage (map storage_text parts.storage)
     ∷ section_text section.Charging (map charging_text parts.charging)
     ∷ section_text section.Units (map unit_text parts.units)
-    ∷ section_text section.Operations (map operation_text parts.operations)
     ∷ []
+
+-- all members of a plant
+abbrev pub plant_members : PlantFormat → Parts → List (List ℕ)
+plant_members format parts =
+    front_members format parts ++ place_members format parts
+    ++ section_text section.Operations (map operation_text parts.operations) ∷ []
 
 -- the text of a plant, with its line feed (10)
 unfoldable pub plant_text_of : Parts → List ℕ

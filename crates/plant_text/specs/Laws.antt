@@ -1,5 +1,5 @@
 -- What the texts of plants are good for: they are read back, and so each tells one plant.
-use Rattle.std.specs.Prelude.{◌≡◌, Ok}
+use Rattle.std.specs.Prelude.{◌≡◌, ℕ, List, Ok}
 use Rattle.plant_model.specs.declared.parts.Parts.{Parts}
 use Rattle.plant_model.specs.Faults.{IsSound}
 use Rattle.plant_model.specs.Parts.{seen_parts}
@@ -19,3 +19,7 @@ abbrev pub TextsTellPlants : Type 0
 TextsTellPlants =
     (parts others : Parts) → IsSound parts → IsSound others → seen_parts parts ≡ parts → seen_parts others ≡ others
     → plant_text_of parts ≡ plant_text_of others → parts ≡ others
+
+-- so is the plant of any text, whose own text may be another
+abbrev pub AcceptedPlantsAreReadBack : Type 0
+AcceptedPlantsAreReadBack = (text : List ℕ) (parts : Parts) → plant_of text ≡ Ok parts → IsReadBack parts

@@ -5,4 +5,4 @@ pub mod Gives
 pub mod PlantText
 pub mod Canonical
 pub mod Laws
-pub mod Seen
+pub mod inside

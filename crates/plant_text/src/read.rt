@@ -25,7 +25,7 @@ pub fn read_plant(alloc: Global, bytes: &[u8]) -> Result<Plant, PlantTextFault>
     plant(alloc, parts)
 }
 
-pub(crate) fn json(alloc: Global, bytes: &[u8]) -> Result<Value, PlantTextFault>
+fn json(alloc: Global, bytes: &[u8]) -> Result<Value, PlantTextFault>
     ensures { Gives (λ whole. view whole) result (json_of bytes.now) }
 {
     match Value::from_slice(alloc, bytes) {
@@ -36,7 +36,7 @@ pub(crate) fn json(alloc: Global, bytes: &[u8]) -> Result<Value, PlantTextFault>
 }
 
 #[tactic(auto, unfolding(crate::specs::Walk::parts_of))]
-pub(crate) fn parts(alloc: Global, whole: &Value) -> Result<Parts, PlantTextFault>
+fn parts(alloc: Global, whole: &Value) -> Result<Parts, PlantTextFault>
     ensures { Gives (λ parts. parts) result (parts_of (view whole.now)) }
 {
     let lists = sections(whole)?;
@@ -60,7 +60,7 @@ pub(crate) fn parts(alloc: Global, whole: &Value) -> Result<Parts, PlantTextFaul
     })
 }
 
-pub(crate) fn plant(alloc: Global, parts: Parts) -> Result<Plant, PlantTextFault>
+fn plant(alloc: Global, parts: Parts) -> Result<Plant, PlantTextFault>
     ensures { Gives (λ plant. plant) result (sound_or (first_of (faults_of parts)) parts) }
 {
     match Plant::new(alloc, parts) {

@@ -3,7 +3,7 @@ ghost use Rattle.serde_json.specs.View.{view, items_view};
 ghost use Rattle.plant_text.specs.Walk.{section_of, sections_of, Sections};
 ghost use Rattle.plant_text.specs.Kinds.{whole_number};
 ghost use Rattle.plant_text.specs.Gives.{Gives};
-ghost use Rattle.plant_text.specs.Seen.{lists_seen};
+ghost use Rattle.plant_text.specs.inside.Seen.{lists_seen};
 
 use crate::entry::Entry;
 use crate::fault::PlantTextFault;

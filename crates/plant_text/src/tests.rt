@@ -1,56 +1,45 @@
 mod cases;
+mod samples;
 
-use crate::read::{json, parts, plant};
-use crate::{PlantTextFault, key_name, read_plant, section_name};
-use cases::{changed_berths, changed_parts, other_texts};
+use crate::{PlantTextFault, plant_text_laws, print_place, print_plant, read_plant};
+use cases::{changed_texts, told_texts};
 use plant_model::{Place, Plant};
+use samples::sample_texts;
 use std::alloc::{AllocError, Global};
 use std::test::Fail;
 
-const ONE_CHARGE: &str =
-    "{\"format\":1,\"horizon\":2,\"properties\":[],\"crudes\":[{\"name\":\"A\",\"margin\":3,\"properties\":[]}],\"vessels\":[],\"storage\":[],\"charging\":[{\"name\":\"C1\",\"min\":0,\"max\":10,\"amounts\":[4],\"demand\":[0,10000000]}],\"units\":[{\"name\":\"U\",\"continuous\":false,\"charges\":[0,40]}],\"operations\":[{\"name\":\"c1\",\"from\":\"C1\",\"to\":\"U\",\"rate\":[0,2880],\"volume\":[1,4],\"window\":[0,2],\"limits\":[]}]}";
+// What the program tells of a place, behind a word.
+fn told_at(alloc: Global, word: &str, place: &Place) -> Result<String, Fail> {
+    let place = String::from_utf8(print_place(alloc, place)?)
+        .ok()
+        .ok_or("a place is words")?;
+    Ok(format!(in alloc; "{word} {place}")?)
+}
 
-// The same with a vessel, in format 2.
-const ONE_VESSEL: &str =
-    "{\"horizon\":2,\"properties\":[],\"crudes\":[{\"name\":\"A\",\"margin\":3,\"properties\":[]}],\"format\":2,\"vessels\":[{\"berth\":1,\"name\":\"V1\",\"arrival\":0,\"amounts\":[4]}],\"storage\":[],\"charging\":[{\"name\":\"C1\",\"min\":0,\"max\":10,\"amounts\":[4],\"demand\":[0,10000000]}],\"units\":[{\"name\":\"U\",\"continuous\":false,\"charges\":[0,40]}],\"operations\":[{\"name\":\"c1\",\"from\":\"C1\",\"to\":\"U\",\"rate\":[0,2880],\"volume\":[1,4],\"window\":[0,2],\"limits\":[]}]}";
-
-fn place(alloc: Global, kind: &str, place: Place) -> Result<String, AllocError> {
-    let section = section_name(place.section);
-    let index = place.index;
-    let key = key_name(place.key);
-    format!(in alloc; "{kind} {section} {index} {key}")
+fn told_fault(alloc: Global, fault: PlantTextFault) -> Result<String, Fail> {
+    match fault {
+        PlantTextFault::Json => Ok(String::from_str(alloc, "json")?),
+        PlantTextFault::Shape(place) => told_at(alloc, "shape", &place),
+        PlantTextFault::Plant(fault) => {
+            let number = fault.number.to_string(alloc)?;
+            told_at(alloc, number.as_str(), &fault.place)
+        }
+        PlantTextFault::Memory => Err(AllocError.into()),
+    }
 }
 
 // What the reader tells of a text.
-fn told(alloc: Global, text: &[u8]) -> Result<String, AllocError> {
-    as_text(alloc, read_plant(alloc, text))
+fn told(alloc: Global, text: &[u8]) -> Result<String, Fail> {
+    match read_plant(alloc, text) {
+        Ok(_) => Ok(String::from_str(alloc, "plant")?),
+        Err(fault) => told_fault(alloc, fault),
+    }
 }
 
-// What it would tell if every plant could be served.
-fn told_of_form(alloc: Global, text: &[u8]) -> Result<String, AllocError> {
-    as_text(alloc, plant_of_form(alloc, text))
-}
-
-fn plant_of_form(alloc: Global, text: &[u8]) -> Result<Plant, PlantTextFault> {
-    let whole = json(alloc, text)?;
-    let parts = parts(alloc, &whole)?;
-    plant(alloc, parts)
-}
-
-fn as_text(alloc: Global, read: Result<Plant, PlantTextFault>) -> Result<String, AllocError> {
-    match read {
-        Ok(_) => String::from_str(alloc, "plant"),
-        Err(PlantTextFault::Json) => String::from_str(alloc, "json"),
-        Err(PlantTextFault::Shape(at)) => place(alloc, "shape", at),
-        Err(PlantTextFault::Plant(fault)) => {
-            let number = fault.number.to_string(alloc)?;
-            place(alloc, number.as_str(), fault.place)
-        }
-        Err(PlantTextFault::NotYet(section)) => {
-            let section = section_name(section);
-            format!(in alloc; "not yet {section}")
-        }
-        Err(PlantTextFault::Memory) => Err(AllocError),
+fn plant(alloc: Global, text: &[u8]) -> Result<Plant, Fail> {
+    match read_plant(alloc, text) {
+        Ok(plant) => Ok(plant),
+        Err(_) => Err("the text is a plant's".into()),
     }
 }
 
@@ -60,11 +49,28 @@ fn with(alloc: Global, text: &str, old: &str, new: &str) -> Result<String, Fail>
     Ok(format!(in alloc; "{before}{new}{after}")?)
 }
 
+// The text with blanks, a tab, a line feed and a carriage return around each of its marks. No name of the samples has
+// a mark in it.
+fn spread(alloc: Global, text: &str) -> Result<Vec<u8>, AllocError> {
+    let mut out = Vec::new(alloc);
+    for byte in text.bytes() {
+        match byte {
+            b'{' | b'}' | b'[' | b']' | b':' | b',' => {
+                out.extend_from_slice(b" \t")?;
+                out.push(byte)?;
+                out.extend_from_slice(b"\r\n  ")?;
+            }
+            _ => out.push(byte)?,
+        }
+    }
+    Ok(out)
+}
+
 #[test]
-fn tells_the_first_fault(rt: HostRuntime) -> Result<(), Fail> {
+fn tells_the_first_place_or_fault(rt: HostRuntime) -> Result<(), Fail> {
     let alloc = rt.alloc();
-    for (old, new, wanted) in changed_parts() {
-        let text = with(alloc, ONE_CHARGE, old, new)?;
+    for (sample, old, new, wanted) in changed_texts() {
+        let text = with(alloc, sample, old, new)?;
         let told = told(alloc, text.as_bytes())?;
         assert_eq!(rt; told.as_str(), *wanted, "{new}");
     }
@@ -72,21 +78,23 @@ fn tells_the_first_fault(rt: HostRuntime) -> Result<(), Fail> {
 }
 
 #[test]
-fn tells_the_form_of_vessels(rt: HostRuntime) -> Result<(), Fail> {
-    let alloc = rt.alloc();
-    for (old, new, wanted) in changed_berths() {
-        let text = with(alloc, ONE_VESSEL, old, new)?;
-        let told = told_of_form(alloc, text.as_bytes())?;
-        assert_eq!(rt; told.as_str(), *wanted, "{new}");
+fn tells_of_other_bytes_what_they_are(rt: HostRuntime) -> Result<(), Fail> {
+    for (text, wanted) in told_texts() {
+        let told = told(rt.alloc(), text)?;
+        assert_eq!(rt; told.as_str(), *wanted, "{text:?}");
     }
     Ok(())
 }
 
 #[test]
-fn tells_why_other_texts_are_none(rt: HostRuntime) -> Result<(), Fail> {
-    for (text, wanted) in other_texts() {
-        let told = told(rt.alloc(), text)?;
-        assert_eq!(rt; told.as_str(), *wanted, "{text:?}");
+fn prints_the_one_text_of_a_plant(rt: HostRuntime) -> Result<(), Fail> {
+    let alloc = rt.alloc();
+    plant_text_laws();
+    for (text, wanted) in sample_texts() {
+        let line = format!(in alloc; "{wanted}\n")?;
+        let spread = spread(alloc, text)?;
+        let printed = print_plant(alloc, &plant(alloc, &spread)?)?;
+        assert_eq!(rt; printed.as_slice(), line.as_bytes(), "{wanted}");
     }
     Ok(())
 }

@@ -80,9 +80,9 @@ pub(crate) fn write_pair(out: &mut Vec<u8>, pair: Pair) -> Result<(), AllocError
 
 /// Names, in quotes.
 #[derive(Drop)]
-pub(crate) struct Names;
+pub(crate) struct NameWriter;
 
-impl ItemWriter for Names {
+impl ItemWriter for NameWriter {
     type Item = Name;
 
     ghost text = { λ _. quoted };
@@ -94,9 +94,9 @@ impl ItemWriter for Names {
 
 /// Whole numbers.
 #[derive(Drop)]
-struct WholeNumbers;
+struct NumberWriter;
 
-impl ItemWriter for WholeNumbers {
+impl ItemWriter for NumberWriter {
     type Item = i64;
 
     ghost text = { λ _. signed_decimal };
@@ -108,9 +108,9 @@ impl ItemWriter for WholeNumbers {
 
 /// Pairs of whole numbers.
 #[derive(Drop)]
-struct WholePairs;
+struct PairWriter;
 
-impl ItemWriter for WholePairs {
+impl ItemWriter for PairWriter {
     type Item = Pair;
 
     ghost text = { λ _. pair_text };
@@ -123,11 +123,11 @@ impl ItemWriter for WholePairs {
 pub(crate) fn write_numbers(out: &mut Vec<u8>, numbers: &[i64]) -> Result<(), AllocError>
     ensures { OnOk result (out.new.items ≡ out.old.items ++ numbers_text numbers.now) }
 {
-    write_list(out, &WholeNumbers, numbers)
+    write_list(out, &NumberWriter, numbers)
 }
 
 pub(crate) fn write_pairs(out: &mut Vec<u8>, pairs: &[Pair]) -> Result<(), AllocError>
     ensures { OnOk result (out.new.items ≡ out.old.items ++ list_text (map pair_text pairs.now)) }
 {
-    write_list(out, &WholePairs, pairs)
+    write_list(out, &PairWriter, pairs)
 }

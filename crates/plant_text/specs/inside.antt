@@ -1,0 +1,2 @@
+-- What only helpers of the reading need.
+pub mod Seen
