@@ -12,14 +12,15 @@ use Rattle.dossier_text.specs.declared.dossier.Word3.TheVariants.{Plan, Infeasib
 use Rattle.crude_run.specs.declared.answer.Answer.{Answer}
 use Rattle.crude_run.specs.declared.words.Ask.{Ask}
 use Rattle.crude_run.specs.declared.words.Command.{Command}
-use Rattle.crude_run.specs.declared.words.Command.TheVariants.{Solve, Check}
+use Rattle.crude_run.specs.declared.words.Command.TheVariants.{Solve, Check, Replay, Show}
 use Rattle.crude_run.specs.Numbers.{plant_limit, status_no_memory, status_write_failed}
 use Rattle.crude_run.specs.Words.{line_words, IsPlainLine}
 use Rattle.crude_run.specs.Files.{Files, bytes, failed, longer}
 use Rattle.crude_run.specs.Solving.{status_of, Solves}
 use Rattle.crude_run.specs.Checking.{Checks}
+use Rattle.crude_run.specs.Replaying.{IsReplay, Replays, Shows}
 use Rattle.crude_run.specs.Answered.{OfPlant, OfFile, OfPlantFile, Serves, CallsFor, Outlet, Answered}
-use Rattle.crude_run.specs.Completeness.{IsAtHand, IsPlantAtHand, NoWriteFailed, HasDossierStatus, HasVerdictStatus, IsComplete}
+use Rattle.crude_run.specs.Completeness.{IsAtHand, IsPlantAtHand, NoWriteFailed, HasDossierStatus, HasVerdictStatus, HasReplayStatus, HasShownStatus, IsComplete}
 
 -- ---- lines
 
@@ -44,18 +45,35 @@ same_ask one words plant other ask asked first second =
     ∙ ap (λ n. record { slots = ask.slots; nodes = n; workers = asked.workers }) nodes
     ∙ ap (λ n. record { slots = ask.slots; nodes = ask.nodes; workers = n }) workers
 
+-- lines of different lengths
+apart : {P : Type 0} (words : List (List ℕ)) (command other : Command) → (length (line_words command) ≡ length (line_words other) → ⊥) →
+    IsPlainLine words command → IsPlainLine words other → P
+apart words command other lengths first second = absurd (lengths (ap length (sym first.0 ∙ second.0)))
+
 -- of one command, whichever it is
 same_command : HasOneNumber → (words : List (List ℕ)) (command other : Command) → IsPlainLine words command → IsPlainLine words other → other ≡ command
 same_command one words (Solve plant ask) (Solve other asked) first second =
     ap₂ Solve (same_plant words plant other ask asked first second) (same_ask one words plant other ask asked first second)
 same_command one words (Check plant dossier) (Check other another) first second =
     let both : line_words (Check other another) ≡ line_words (Check plant dossier) = sym second.0 ∙ first.0 in cc
-same_command one words (Solve plant ask) (Check other another) first second =
-    let both : line_words (Check other another) ≡ line_words (Solve plant ask) = sym second.0 ∙ first.0 in
-    let counts : 3 ≡ 8 = ap length both in absurd (omega (arith, counts))
-same_command one words (Check plant dossier) (Solve other asked) first second =
-    let both : line_words (Solve other asked) ≡ line_words (Check plant dossier) = sym second.0 ∙ first.0 in
-    let counts : 8 ≡ 3 = ap length both in absurd (omega (arith, counts))
+same_command one words (Solve plant ask) (Check other another) first second = apart words (Solve plant ask) (Check other another) (λ counts. omega (arith, counts)) first second
+same_command one words (Solve plant ask) (Replay other another) first second = apart words (Solve plant ask) (Replay other another) (λ counts. omega (arith, counts)) first second
+same_command one words (Solve plant ask) (Show other) first second = apart words (Solve plant ask) (Show other) (λ counts. omega (arith, counts)) first second
+same_command one words (Check plant dossier) (Solve other asked) first second = apart words (Check plant dossier) (Solve other asked) (λ counts. omega (arith, counts)) first second
+same_command one words (Check plant dossier) (Replay other another) first second =
+    let both : line_words (Replay other another) ≡ line_words (Check plant dossier) = sym second.0 ∙ first.0 in absurd cc
+same_command one words (Check plant dossier) (Show other) first second = apart words (Check plant dossier) (Show other) (λ counts. omega (arith, counts)) first second
+same_command one words (Replay plant plan) (Solve other asked) first second = apart words (Replay plant plan) (Solve other asked) (λ counts. omega (arith, counts)) first second
+same_command one words (Replay plant plan) (Check other another) first second =
+    let both : line_words (Check other another) ≡ line_words (Replay plant plan) = sym second.0 ∙ first.0 in absurd cc
+same_command one words (Replay plant plan) (Replay other another) first second =
+    let both : line_words (Replay other another) ≡ line_words (Replay plant plan) = sym second.0 ∙ first.0 in cc
+same_command one words (Replay plant plan) (Show other) first second = apart words (Replay plant plan) (Show other) (λ counts. omega (arith, counts)) first second
+same_command one words (Show plant) (Solve other asked) first second = apart words (Show plant) (Solve other asked) (λ counts. omega (arith, counts)) first second
+same_command one words (Show plant) (Check other another) first second = apart words (Show plant) (Check other another) (λ counts. omega (arith, counts)) first second
+same_command one words (Show plant) (Replay other another) first second = apart words (Show plant) (Replay other another) (λ counts. omega (arith, counts)) first second
+same_command one words (Show plant) (Show other) first second =
+    let both : line_words (Show other) ≡ line_words (Show plant) = sym second.0 ∙ first.0 in cc
 
 -- ---- statuses
 
@@ -79,6 +97,19 @@ dossier_status parts ask answer solved = by_word solved.dossier.answer refl
 verdict_status : (parts : Parts) (text : List ℕ) (answer : Answer) → Checks parts text answer → HasVerdictStatus answer.status
 verdict_status parts text answer (inl accepted) = inl (ap (λ a. a.status) accepted.says)
 verdict_status parts text answer (inr refused) = inr (inl (ap (λ a. a.status) refused.says))
+
+-- the status of a replay
+replay_status : (parts : Parts) (text : List ℕ) (answer : Answer) → Replays parts text answer → HasReplayStatus answer.status
+replay_status parts text answer (inl is) =
+    elim is.replayed [
+      | inl legal ↦ inl (ap (λ a. a.status) legal.says)
+      | inr illegal ↦ inr (inl (ap (λ a. a.status) illegal.says))
+    ]
+replay_status parts text answer (inr none) = inr (inr (inl (ap (λ a. a.status) none.says)))
+
+-- the status of a plant that is shown
+shown_status : (parts : Parts) (answer : Answer) → Shows parts answer → HasShownStatus answer.status
+shown_status parts answer owed = inl (ap (λ a. a.status) owed)
 
 -- ---- files at hand
 
@@ -135,4 +166,13 @@ IsComplete-from one words files outlet status answered = record {
       (λ answer owed. verdict_status parts file answer
       (of_at_hand files 2 dossier _ file (Checks parts) answer second
       (of_plant_at_hand files plant parts _ answer there (called one words (Check plant dossier) files answer line owed)))) answered;
+  replays = λ plant plan file parts line there second sent.
+      ended HasReplayStatus (CallsFor words files) outlet status sent (inr (inr (inr refl)))
+      (λ answer owed. replay_status parts file answer
+      (of_at_hand files 2 plan _ file (Replays parts) answer second
+      (of_plant_at_hand files plant parts _ answer there (called one words (Replay plant plan) files answer line owed)))) answered;
+  shows = λ plant parts line there sent.
+      ended HasShownStatus (CallsFor words files) outlet status sent (inr refl)
+      (λ answer owed. shown_status parts answer
+      (of_plant_at_hand files plant parts Shows answer there (called one words (Show plant) files answer line owed))) answered;
 }

@@ -10,10 +10,11 @@ use Rattle.crude_run.specs.declared.answer.Answer.{Answer}
 use Rattle.crude_run.specs.declared.opening.Stop.{Stop}
 use Rattle.crude_run.specs.declared.opening.Stop.TheVariants as stop
 use Rattle.crude_run.specs.declared.words.Command.{Command}
-use Rattle.crude_run.specs.declared.words.Command.TheVariants.{Solve, Check}
+use Rattle.crude_run.specs.declared.words.Command.TheVariants.{Solve, Check, Replay, Show}
 use Rattle.crude_run.specs.Files.{Files, FileRead, bytes, failed, longer}
 use Rattle.crude_run.specs.Solving.{status_of, Solves}
 use Rattle.crude_run.specs.Checking.{Checks}
+use Rattle.crude_run.specs.Replaying.{IsReplay, Replays, Shows}
 use Rattle.crude_run.specs.Answered.{OfPlant, OfRead, Serves, Outlet, Answered}
 use Rattle.crude_run.specs.Stopping.{IfDue, IsDue}
 
@@ -31,13 +32,23 @@ checks_below : (parts : Parts) (text : List ℕ) (answer : Answer) → Checks pa
 checks_below parts text answer (inl accepted) = rw accepted.says (omega arith)
 checks_below parts text answer (inr refused) = rw refused.says (omega arith)
 
+replay_below : (parts : Parts) (text : List ℕ) (answer : Answer) → IsReplay parts text answer → answer.status < 71
+replay_below parts text answer is =
+    elim is.replayed [ inl legal ↦ rw legal.says (omega arith) | inr illegal ↦ rw illegal.says (omega arith) ]
+
+replays_below : (parts : Parts) (text : List ℕ) (answer : Answer) → Replays parts text answer → answer.status < 71
+replays_below parts text answer (inl is) = replay_below parts text answer is
+replays_below parts text answer (inr none) = rw none.says (omega arith)
+
+shows_below : (parts : Parts) (answer : Answer) → Shows parts answer → answer.status < 71
+shows_below parts answer owed = rw owed (omega arith)
+
 plant_below : (Then : Parts → Answer → Type 0) → ((parts : Parts) (answer : Answer) → Then parts answer → answer.status < 71)
     → (read : Result Parts PlantTextFault) (answer : Answer) → OfPlant Then read answer → answer.status < 71
 plant_below Then below (Ok parts) answer owed = below parts answer owed
 plant_below Then below (Err fault.Json) answer owed = rw owed (omega arith)
 plant_below Then below (Err (fault.Shape place)) answer owed = rw owed (omega arith)
 plant_below Then below (Err (fault.Plant found)) answer owed = rw owed (omega arith)
-plant_below Then below (Err (fault.NotYet section)) answer owed = rw owed (omega arith)
 plant_below Then below (Err fault.Memory) answer owed = absurd owed
 
 read_below : (number : ℕ) (Then : List ℕ → Answer → Type 0) → ((found : List ℕ) (answer : Answer) → Then found answer → answer.status < 71)
@@ -52,3 +63,7 @@ serves_below (Solve plant ask) files answer (read, may, owed) =
     read_below 1 _ (λ text. plant_below _ (λ parts. solves_below parts ask.slots ask.nodes) (plant_of text)) read answer owed
 serves_below (Check plant dossier) files answer (read, may, owed) =
     read_below 1 _ (λ text. plant_below _ (λ parts due second. read_below 2 _ (checks_below parts) second.0 due second.2) (plant_of text)) read answer owed
+serves_below (Replay plant plan) files answer (read, may, owed) =
+    read_below 1 _ (λ text. plant_below _ (λ parts due second. read_below 2 _ (replays_below parts) second.0 due second.2) (plant_of text)) read answer owed
+serves_below (Show plant) files answer (read, may, owed) =
+    read_below 1 _ (λ text. plant_below _ shows_below (plant_of text)) read answer owed

@@ -1,14 +1,15 @@
 -- How the words of a line stand to the line that they are.
 use Rattle.std.proofs.Common.{◌≡◌, ℕ, Bool, true, false, List, [], ◌∷◌, length, map, string_bytes, ap, get_or, Option, Some, None, String, refl, arith}
-use Rattle.std.specs.Prelude.{◌&&◌, ◌↔◌, codes, IfSome, IfNone}
+use Rattle.std.specs.Prelude.{◌&&◌, IsTrue, codes, IfSome, IfNone}
+use Rattle.std.specs.Borrow.{Bor}
 use Rattle.std.specs.Str.{bytes_eq}
 use Rattle.std.specs.declared.alloc.Global.{Global}
 use Rattle.std.proofs.lemmas.Bool.{and_from}
 use Rattle.std.proofs.lemmas.Slice.Eq.{bytes_eq-Decides}
 use Rattle.crude_run.specs.declared.words.Ask.{Ask}
-use Rattle.crude_run.specs.declared.words.Command.TheVariants.{Solve, Check}
+use Rattle.crude_run.specs.declared.words.Command.TheVariants.{Solve, Check, Replay, Show}
 use Rattle.crude_run.specs.Words.{is_file_word, IsPlainLine, AreRefused}
-use Rattle.crude_run.specs.WordReading.{is_solve, is_check, IsAskOf, IsSolveLine, IsCheckLine}
+use Rattle.crude_run.specs.WordReading.{is_solve, IsAskOf, IsSolveLine, NameTwoFiles, NameOneFile, names_two_files, names_one_file}
 
 -- eight words, by their places
 pub eight_words : (words : List (String Global)) (a b c d e f g h : String Global) → length words ≡ 8
@@ -78,43 +79,75 @@ three_words (x0 ∷ x1 ∷ []) a b c len p q r = absurd (omega arith)
 three_words (x0 ∷ x1 ∷ x2 ∷ []) a b c len p q r = cc
 three_words (x0 ∷ x1 ∷ x2 ∷ x3 ∷ xs) a b c len p q r = absurd (omega arith)
 
--- they are a line of `check` exactly where the test says so
-pub check_line : (a b c : List ℕ) → (is_check a b c ≡ true) ↔ IsCheckLine (a ∷ b ∷ c ∷ [])
-check_line a b c = (from_test, to_test)
-  where
-    from_test : is_check a b c ≡ true → IsCheckLine (a ∷ b ∷ c ∷ [])
-    from_test h =
-        let w = both (bytes_eq a (codes "check") && is_file_word b) (is_file_word c) h in
-        let v = both (bytes_eq a (codes "check")) (is_file_word b) w.0 in
-        let verb : a ≡ codes "check" = same_bytes _ _ v.0 in
-        (b, c, (cc, (v.1, w.1)))
+-- the test of three words, and what they name
+pub two_named : (verb a b c : List ℕ) → names_two_files verb a b c ≡ true → NameTwoFiles verb (a ∷ b ∷ c ∷ []) b c
+two_named verb a b c holds =
+    let last = both (bytes_eq a verb && is_file_word b) (is_file_word c) holds in
+    let first = both (bytes_eq a verb) (is_file_word b) last.0 in
+    (ap (λ (word : List ℕ). word ∷ b ∷ c ∷ []) (same_bytes a verb first.0), (first.1, last.1))
 
-    to_test : IsCheckLine (a ∷ b ∷ c ∷ []) → is_check a b c ≡ true
-    to_test (plant, dossier, line) =
-        let words = line.0 in
-        let verb : a ≡ codes "check" = cc in
-        let first : b ≡ plant = cc in
-        let second : c ≡ dossier = cc in
-        and_from (bytes_eq a (codes "check") && is_file_word b) (is_file_word c)
-        (and_from (bytes_eq a (codes "check")) (is_file_word b) ((bytes_eq-Decides a (codes "check")).1 verb) (rw first line.1.0))
-        (rw second line.1.1)
+pub none_named : (verb a b c : List ℕ) → names_two_files verb a b c ≡ false → (first second : List ℕ) → NameTwoFiles verb (a ∷ b ∷ c ∷ []) first second → ⊥
+none_named verb a b c fails first second named =
+    let words = named.0 in
+    let word : a ≡ verb = cc in
+    let one : b ≡ first = cc in
+    let two : c ≡ second = cc in
+    let holds : names_two_files verb a b c ≡ true =
+    and_from (bytes_eq a verb && is_file_word b) (is_file_word c)
+    (and_from (bytes_eq a verb) (is_file_word b) ((bytes_eq-Decides a verb).1 word) (rw one named.1.0)) (rw two named.1.1) in
+    absurd cc
 
--- the second and the third word of such a line name its files
-pub check_files_named : (words : List (String Global)) (b c : String Global) → b ≡ get_or words 1 b → c ≡ get_or words 2 c →
-    IsCheckLine (map string_bytes words) → IsPlainLine (map string_bytes words) (Check (string_bytes b) (string_bytes c))
-check_files_named [] b c q r (plant, dossier, line) = let count = ap length line.0 in absurd (omega (arith, count))
-check_files_named (x0 ∷ []) b c q r (plant, dossier, line) = let count = ap length line.0 in absurd (omega (arith, count))
-check_files_named (x0 ∷ x1 ∷ []) b c q r (plant, dossier, line) = let count = ap length line.0 in absurd (omega (arith, count))
-check_files_named (x0 ∷ x1 ∷ x2 ∷ []) b c q r (plant, dossier, line) =
-    let words = line.0 in
-    let first : string_bytes b ≡ plant = cc in
-    let second : string_bytes c ≡ dossier = cc in
-    (cc, (rw first line.1.0, rw second line.1.1))
-check_files_named (x0 ∷ x1 ∷ x2 ∷ x3 ∷ xs) b c q r (plant, dossier, line) = let count = ap length line.0 in absurd (omega (arith, count))
+-- what a reader of three words answers
+pub two-found : (verb a b c : List ℕ) (read : Option (Bor (List ℕ) × Bor (List ℕ))) →
+    IfSome read (λ files. IsTrue (names_two_files verb a b c) × (files.0.now ≡ b) × (files.1.now ≡ c)) →
+    IfSome read (λ files. NameTwoFiles verb (a ∷ b ∷ c ∷ []) files.0.now files.1.now)
+two-found verb a b c None named = tt
+two-found verb a b c (Some files) named = rw (named.1, named.2) (two_named verb a b c named.0)
+
+pub two-none : (verb a b c : List ℕ) (read : Option (Bor (List ℕ) × Bor (List ℕ))) → IfNone read (names_two_files verb a b c ≡ false) →
+    IfNone read ((first second : List ℕ) → NameTwoFiles verb (a ∷ b ∷ c ∷ []) first second → ⊥)
+two-none verb a b c None fails = none_named verb a b c fails
+two-none verb a b c (Some files) fails = tt
+
+-- ---- two words
+
+pub two_words : (words : List (String Global)) (a b : String Global) → length words ≡ 2 → a ≡ get_or words 0 a → b ≡ get_or words 1 b → words ≡ a ∷ b ∷ []
+two_words [] a b len p q = absurd (omega arith)
+two_words (x0 ∷ []) a b len p q = absurd (omega arith)
+two_words (x0 ∷ x1 ∷ []) a b len p q = cc
+two_words (x0 ∷ x1 ∷ x2 ∷ xs) a b len p q = absurd (omega arith)
+
+pub one_named : (verb a b : List ℕ) → names_one_file verb a b ≡ true → NameOneFile verb (a ∷ b ∷ []) b
+one_named verb a b holds =
+    let parts = both (bytes_eq a verb) (is_file_word b) holds in
+    (ap (λ (word : List ℕ). word ∷ b ∷ []) (same_bytes a verb parts.0), parts.1)
+
+pub not_named : (verb a b : List ℕ) → names_one_file verb a b ≡ false → (file : List ℕ) → NameOneFile verb (a ∷ b ∷ []) file → ⊥
+not_named verb a b fails file named =
+    let words = named.0 in
+    let word : a ≡ verb = cc in
+    let one : b ≡ file = cc in
+    let holds : names_one_file verb a b ≡ true = and_from (bytes_eq a verb) (is_file_word b) ((bytes_eq-Decides a verb).1 word) (rw one named.1) in
+    absurd cc
+
+pub one-found : (verb a b : List ℕ) (read : Option (Bor (List ℕ))) → IfSome read (λ file. IsTrue (names_one_file verb a b) × (file.now ≡ b)) →
+    IfSome read (λ file. NameOneFile verb (a ∷ b ∷ []) file.now)
+one-found verb a b None named = tt
+one-found verb a b (Some file) named = rw named.1 (one_named verb a b named.0)
+
+pub one-none : (verb a b : List ℕ) (read : Option (Bor (List ℕ))) → IfNone read (names_one_file verb a b ≡ false) →
+    IfNone read ((file : List ℕ) → NameOneFile verb (a ∷ b ∷ []) file → ⊥)
+one-none verb a b None fails = not_named verb a b fails
+one-none verb a b (Some file) fails = tt
 
 -- ---- refused words
 
 -- words that are a line of no command are refused
-pub no_line : (words : List (List ℕ)) → ((ask : Ask) → IsSolveLine words ask → ⊥) → (IsCheckLine words → ⊥) → AreRefused words
-no_line words no_solve no_check (Solve plant ask) line = no_solve ask (plant, line)
-no_line words no_solve no_check (Check plant dossier) line = no_check (plant, dossier, line)
+pub no_line : (words : List (List ℕ)) → ((ask : Ask) → IsSolveLine words ask → ⊥) →
+    ((first second : List ℕ) → NameTwoFiles (codes "check") words first second → ⊥) →
+    ((first second : List ℕ) → NameTwoFiles (codes "replay") words first second → ⊥) →
+    ((file : List ℕ) → NameOneFile (codes "show") words file → ⊥) → AreRefused words
+no_line words no_solve no_check no_replay no_show (Solve plant ask) line = no_solve ask (plant, line)
+no_line words no_solve no_check no_replay no_show (Check plant dossier) line = no_check plant dossier line
+no_line words no_solve no_check no_replay no_show (Replay plant plan) line = no_replay plant plan line
+no_line words no_solve no_check no_replay no_show (Show plant) line = no_show plant line

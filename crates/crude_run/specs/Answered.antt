@@ -8,21 +8,21 @@ use Rattle.plant_text.specs.declared.fault.PlantTextFault.TheVariants as fault
 use Rattle.plant_text.specs.PlantText.{plant_of}
 use Rattle.crude_run.specs.declared.answer.Answer.{Answer}
 use Rattle.crude_run.specs.declared.words.Command.{Command}
-use Rattle.crude_run.specs.declared.words.Command.TheVariants.{Solve, Check}
-use Rattle.crude_run.specs.Numbers.{plant_limit, dossier_limit, status_no_memory, status_write_failed}
+use Rattle.crude_run.specs.declared.words.Command.TheVariants.{Solve, Check, Replay, Show}
+use Rattle.crude_run.specs.Numbers.{plant_limit, plan_limit, dossier_limit, status_no_memory, status_write_failed}
 use Rattle.crude_run.specs.Words.{IsPlainLine, AreRefused}
 use Rattle.crude_run.specs.Files.{Files, FileRead, bytes, failed, longer, MayGive}
-use Rattle.crude_run.specs.Texts.{words_refused, plant_refused, not_yet, read_failed, too_long}
+use Rattle.crude_run.specs.Texts.{words_refused, json_refused, shape_refused, fault_refused, read_failed, too_long}
 use Rattle.crude_run.specs.Solving.{Solves}
 use Rattle.crude_run.specs.Checking.{Checks}
+use Rattle.crude_run.specs.Replaying.{Replays, Shows}
 
--- the answer to what a plant text is: to its plant, or why it is refused
+-- the answer to what a plant text is: to its plant, or the first reason why it is none
 abbrev pub OfPlant : (Parts → Answer → Type 0) → Result Parts PlantTextFault → Answer → Type 0
 OfPlant Then (Ok parts) answer = Then parts answer
-OfPlant Then (Err fault.Json) answer = answer ≡ plant_refused
-OfPlant Then (Err (fault.Shape place)) answer = answer ≡ plant_refused
-OfPlant Then (Err (fault.Plant found)) answer = answer ≡ plant_refused
-OfPlant Then (Err (fault.NotYet section)) answer = answer ≡ not_yet section
+OfPlant Then (Err fault.Json) answer = answer ≡ json_refused
+OfPlant Then (Err (fault.Shape place)) answer = answer ≡ shape_refused place
+OfPlant Then (Err (fault.Plant found)) answer = answer ≡ fault_refused found
 OfPlant Then (Err fault.Memory) answer = ⊥
 
 -- the answer to what reading the command's file of this number gave: to its bytes, or why there are none
@@ -45,6 +45,9 @@ abbrev pub Serves : Command → Files → Answer → Type 0
 Serves (Solve plant ask) files answer = OfPlantFile files plant (λ parts. Solves parts ask.slots ask.nodes) answer
 Serves (Check plant dossier) files answer =
     OfPlantFile files plant (λ parts. OfFile files 2 dossier dossier_limit (Checks parts)) answer
+Serves (Replay plant plan) files answer =
+    OfPlantFile files plant (λ parts. OfFile files 2 plan plan_limit (Replays parts)) answer
+Serves (Show plant) files answer = OfPlantFile files plant Shows answer
 
 -- the answer that words call for: a refusal where they are no plain line, else that of their command
 abbrev pub CallsFor : List (List ℕ) → Files → Answer → Type 0

@@ -6,8 +6,8 @@ use Rattle.plant_text.specs.PlantText.{plant_of}
 use Rattle.slot_box.specs.Boxes.{points_of}
 use Rattle.slot_forms.specs.Cases.{plain, root_box}
 use Rattle.crude_run.specs.declared.words.Ask.{Ask}
-use Rattle.crude_run.specs.declared.words.Command.TheVariants.{Solve, Check}
-use Rattle.crude_run.specs.Numbers.{plant_limit, dossier_limit, status_plan_found, status_infeasible, status_none_found, status_accepted, status_not_accepted, status_no_memory}
+use Rattle.crude_run.specs.declared.words.Command.TheVariants.{Solve, Check, Replay, Show}
+use Rattle.crude_run.specs.Numbers.{plant_limit, plan_limit, dossier_limit, status_plan_found, status_infeasible, status_none_found, status_accepted, status_not_accepted, status_legal, status_illegal, status_plan_refused, status_shown, status_no_memory}
 use Rattle.crude_run.specs.Words.{IsPlainLine}
 use Rattle.crude_run.specs.Files.{Files}
 use Rattle.crude_run.specs.Answered.{Outlet}
@@ -41,6 +41,15 @@ HasDossierStatus parts ask status =
 abbrev pub HasVerdictStatus : ℕ → Type 0
 HasVerdictStatus status = (status ≡ status_accepted) ⊎ (status ≡ status_not_accepted) ⊎ (status ≡ status_no_memory)
 
+-- the status is that of a replay: of a legal plan, of one that is not, or of bytes that are none; or memory was wanting
+abbrev pub HasReplayStatus : ℕ → Type 0
+HasReplayStatus status =
+    (status ≡ status_legal) ⊎ (status ≡ status_illegal) ⊎ (status ≡ status_plan_refused) ⊎ (status ≡ status_no_memory)
+
+-- the plant is shown, or memory was wanting
+abbrev pub HasShownStatus : ℕ → Type 0
+HasShownStatus status = (status ≡ status_shown) ⊎ (status ≡ status_no_memory)
+
 -- a plain line whose files are at hand, the first of them a plant, has been served, unless a write failed or memory was
 -- wanting
 pub record IsComplete (words : List (List ℕ)) (files : Files) (outlet : Outlet) (status : ℕ) : Type 0 where
@@ -50,3 +59,8 @@ pub record IsComplete (words : List (List ℕ)) (files : Files) (outlet : Outlet
   pub checks : (plant dossier file : List ℕ) (parts : Parts)
       → IsPlainLine words (Check plant dossier) → IsPlantAtHand files plant parts →
       IsAtHand files dossier dossier_limit file → NoWriteFailed outlet → HasVerdictStatus status
+  pub replays : (plant plan file : List ℕ) (parts : Parts)
+      → IsPlainLine words (Replay plant plan) → IsPlantAtHand files plant parts →
+      IsAtHand files plan plan_limit file → NoWriteFailed outlet → HasReplayStatus status
+  pub shows : (plant : List ℕ) (parts : Parts)
+      → IsPlainLine words (Show plant) → IsPlantAtHand files plant parts → NoWriteFailed outlet → HasShownStatus status

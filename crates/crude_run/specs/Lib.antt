@@ -4,6 +4,7 @@ pub mod WordReading
 pub mod Texts
 pub mod Solving
 pub mod Checking
+pub mod Replaying
 pub mod Files
 pub mod Answered
 pub mod Concluding

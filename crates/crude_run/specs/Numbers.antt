@@ -1,6 +1,6 @@
 -- The numbers that a user sees: with which status a run ends, and how long its files may be.
 use Rattle.std.specs.Prelude.{ℕ}
-use Rattle.limits.specs.declared.TheConstants.{PLANT_FILE_LIMIT, DOSSIER_FILE_LIMIT}
+use Rattle.limits.specs.declared.TheConstants.{PLANT_FILE_LIMIT, PLAN_FILE_LIMIT, DOSSIER_FILE_LIMIT}
 
 -- ---- statuses
 
@@ -15,6 +15,18 @@ status_accepted = 0
 -- `check` says no
 abbrev pub status_not_accepted : ℕ
 status_not_accepted = 1
+
+-- `replay` finds the plan legal
+abbrev pub status_legal : ℕ
+status_legal = 0
+
+-- `replay` finds a rule broken
+abbrev pub status_illegal : ℕ
+status_illegal = 1
+
+-- `show` shows the plant
+abbrev pub status_shown : ℕ
+status_shown = 0
 
 -- `solve` says that there is no plan
 abbrev pub status_infeasible : ℕ
@@ -40,9 +52,9 @@ status_read_failed = 66
 abbrev pub status_too_long : ℕ
 status_too_long = 67
 
--- the plant has a section that is not built yet
-abbrev pub status_not_yet : ℕ
-status_not_yet = 69
+-- the plan file has a line that is none of a plan
+abbrev pub status_plan_refused : ℕ
+status_plan_refused = 68
 
 -- memory ran out
 abbrev pub status_no_memory : ℕ
@@ -57,6 +69,10 @@ status_write_failed = 74
 -- the most bytes of a plant file
 abbrev pub plant_limit : ℕ
 plant_limit = PLANT_FILE_LIMIT
+
+-- the most bytes of a plan file
+abbrev pub plan_limit : ℕ
+plan_limit = PLAN_FILE_LIMIT
 
 -- the most bytes of a dossier
 abbrev pub dossier_limit : ℕ

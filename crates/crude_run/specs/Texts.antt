@@ -1,12 +1,17 @@
 -- What the program answers: a status, and the whole text that goes with it.
 use Rattle.std.specs.Prelude.{ℕ, ℤ, List, [], ◌∷◌, ◌++◌, Option, codes, decimal}
 use Rattle.line_text.specs.Words.{text_of}
-use Rattle.plant_model.specs.declared.place.Section.{Section}
-use Rattle.plant_text.specs.Names.{section_name}
+use Rattle.plant_model.specs.declared.parts.Parts.{Parts}
+use Rattle.plant_model.specs.declared.place.Place.{Place}
+use Rattle.plant_model.specs.declared.place.PlantFault.{PlantFault}
+use Rattle.plant_text.specs.Canonical.{plant_text_of, place_text_of}
+use Rattle.replay_core.specs.declared.timed.Timed.{Timed}
+use Rattle.replay_core.specs.declared.broken.Broken.{Broken}
+use Rattle.plan_text.specs.Ledger.{ledger_bytes}
 use Rattle.dossier_text.specs.declared.dossier.Word3.{Word3}
 use Rattle.dossier_text.specs.Text.{claim_lines}
 use Rattle.crude_run.specs.declared.answer.Answer.{Answer}
-use Rattle.crude_run.specs.Numbers.{status_accepted, status_not_accepted, status_words_refused, status_plant_refused, status_read_failed, status_too_long, status_not_yet}
+use Rattle.crude_run.specs.Numbers.{status_accepted, status_not_accepted, status_legal, status_illegal, status_shown, status_words_refused, status_plant_refused, status_read_failed, status_too_long, status_plan_refused}
 
 -- a status with one line
 abbrev pub one_line : ℕ → List ℕ → Answer
@@ -16,13 +21,22 @@ one_line status words = record { status = status; text = words ++ 10 ∷ [] }
 abbrev pub words_refused : Answer
 words_refused = one_line status_words_refused (codes "refused words")
 
--- the file is no plant
-abbrev pub plant_refused : Answer
-plant_refused = one_line status_plant_refused (codes "refused plant")
+-- the plant file is no JSON
+abbrev pub json_refused : Answer
+json_refused = one_line status_plant_refused (codes "refused plant json")
 
--- the plant has a section that is not built yet
-abbrev pub not_yet : Section → Answer
-not_yet section = one_line status_not_yet (codes "not yet " ++ section_name section)
+-- its value has not the form of a plant at this place, the first
+abbrev pub shape_refused : Place → Answer
+shape_refused place = one_line status_plant_refused (codes "refused plant shape" ++ 32 ∷ place_text_of place)
+
+-- its parts have this fault, the first, by its number and its place
+abbrev pub fault_refused : PlantFault → Answer
+fault_refused fault =
+    one_line status_plant_refused (codes "refused plant" ++ 32 ∷ decimal fault.number ++ 32 ∷ place_text_of fault.place)
+
+-- this line of the plan file, counted from 1, is the first that is none of a plan
+abbrev pub plan_refused : ℕ → Answer
+plan_refused line = one_line status_plan_refused (codes "refused plan line" ++ 32 ∷ decimal line)
 
 -- the command's file of this number, counted from 1, could not be read
 abbrev pub read_failed : ℕ → Answer
@@ -43,3 +57,15 @@ accepted answer margin bound = record {
 -- the dossier is not accepted: no, the number of the first reason, and the line where it stands
 abbrev pub not_accepted : ℕ → ℕ → Answer
 not_accepted reason line = one_line status_not_accepted (codes "no" ++ 32 ∷ decimal reason ++ 32 ∷ decimal line)
+
+-- the plan is legal: its ledger
+abbrev pub legal : Parts → List Timed → Answer
+legal parts plan = record { status = status_legal; text = ledger_bytes parts plan }
+
+-- the plan is not: the rule that it breaks first, and where
+abbrev pub illegal : Broken → Answer
+illegal broken = one_line status_illegal (codes "illegal" ++ 32 ∷ decimal broken.rule ++ 32 ∷ decimal broken.at)
+
+-- the one text of the plant
+abbrev pub shown : Parts → Answer
+shown parts = record { status = status_shown; text = plant_text_of parts }

@@ -7,7 +7,9 @@ ghost use Rattle.crude_run.specs.Hidden.{HidesNoFault};
 use crate::answer::words_refused;
 use crate::check::check_files;
 use crate::opening::stop_with;
+use crate::replay::replay_files;
 use crate::send::finish;
+use crate::show::show_file;
 use crate::solve::solve_file_alone;
 use crate::status::{NO_MEMORY, Status};
 use crate::words::{Command, WordFault, read_words};
@@ -67,6 +69,10 @@ fn serve<H: Shelf, K: Sink, G: Gate>(
         Ok(Command::Check { plant, dossier }) => {
             check_files(alloc, plant.as_str(), dossier.as_str(), shelf, out)
         }
+        Ok(Command::Replay { plant, plan }) => {
+            replay_files(alloc, plant.as_str(), plan.as_str(), shelf, out)
+        }
+        Ok(Command::Show { plant }) => show_file(alloc, plant.as_str(), shelf, out),
         Err(WordFault::Words) => finish(Err(stop_with(words_refused(alloc))), out),
         Err(WordFault::Memory) => Status::new(NO_MEMORY),
     }

@@ -16,7 +16,9 @@ mod check;
 mod conclude;
 mod files;
 mod opening;
+mod replay;
 mod send;
+mod show;
 mod solve;
 mod status;
 mod words;
@@ -24,10 +26,12 @@ mod words;
 pub use answer::Answer;
 pub use calls::run;
 pub use check::check_files;
+pub use replay::replay_files;
+pub use show::show_file;
 pub use solve::{solve_alone, solve_file_alone};
 pub use status::{
-    ACCEPTED, INFEASIBLE, NO_MEMORY, NONE_FOUND, NOT_ACCEPTED, NOT_YET, PLAN_FOUND, PLANT_REFUSED,
-    READ_FAILED, Status, TOO_LONG, WORDS_REFUSED, WRITE_FAILED,
+    ACCEPTED, ILLEGAL, INFEASIBLE, LEGAL, NO_MEMORY, NONE_FOUND, NOT_ACCEPTED, PLAN_FOUND,
+    PLAN_REFUSED, PLANT_REFUSED, READ_FAILED, SHOWN, Status, TOO_LONG, WORDS_REFUSED, WRITE_FAILED,
 };
 pub use words::{Ask, Command, FileName, WordFault, read_words};
 

@@ -6,7 +6,7 @@ ghost use Rattle.crude_run.specs.Files.{files_between, bytes, MayGive};
 ghost use Rattle.crude_run.specs.Answered.{OfPlant, OfFile, OfPlantFile};
 ghost use Rattle.crude_run.specs.Stopping.{IfStopped, NoAnswer, MayGivePlant, IsLater, ShowsFaults, stop_of};
 
-use crate::answer::{Answer, not_yet, plant_refused, read_failed, too_long};
+use crate::answer::{Answer, fault_refused, json_refused, read_failed, shape_refused, too_long};
 use crate::files::PLANT_FILE;
 use limits::PLANT_FILE_LIMIT;
 use outer_edge::{Shelf, ShelfFault};
@@ -74,10 +74,9 @@ fn plant_of_text(alloc: Global, text: &[u8]) -> Result<Plant, Stop>
 {
     match read_plant(alloc, text) {
         Ok(plant) => Ok(plant),
-        Err(PlantTextFault::Json | PlantTextFault::Shape(_) | PlantTextFault::Plant(_)) => {
-            Err(stop_with(plant_refused(alloc)))
-        }
-        Err(PlantTextFault::NotYet(section)) => Err(stop_with(not_yet(alloc, section))),
+        Err(PlantTextFault::Json) => Err(stop_with(json_refused(alloc))),
+        Err(PlantTextFault::Shape(place)) => Err(stop_with(shape_refused(alloc, place))),
+        Err(PlantTextFault::Plant(fault)) => Err(stop_with(fault_refused(alloc, fault))),
         Err(PlantTextFault::Memory) => Err(Stop::Memory),
     }
 }

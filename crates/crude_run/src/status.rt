@@ -8,6 +8,12 @@ pub const PLAN_FOUND: u8 = 0;
 pub const ACCEPTED: u8 = 0;
 /// `check` says no: the dossier is not accepted.
 pub const NOT_ACCEPTED: u8 = 1;
+/// `replay` finds the plan legal.
+pub const LEGAL: u8 = 0;
+/// `replay` finds that the plan breaks a rule.
+pub const ILLEGAL: u8 = 1;
+/// `show` shows the plant.
+pub const SHOWN: u8 = 0;
 /// `solve` says that there is no legal plan of at most so many operations.
 pub const INFEASIBLE: u8 = 3;
 /// `solve` found no plan.
@@ -20,8 +26,8 @@ pub const PLANT_REFUSED: u8 = 65;
 pub const READ_FAILED: u8 = 66;
 /// A file has more bytes than its limit.
 pub const TOO_LONG: u8 = 67;
-/// The plant has a section that is not built yet.
-pub const NOT_YET: u8 = 69;
+/// The plan file has a line that is none of a plan.
+pub const PLAN_REFUSED: u8 = 68;
 /// Memory ran out.
 pub const NO_MEMORY: u8 = 71;
 /// The text could not be written.

@@ -6,6 +6,8 @@ mod files;
 mod lines;
 mod long_shelf;
 mod plans;
+mod replays;
 mod runs;
 mod samples;
+mod shows;
 mod sinks;

@@ -1,7 +1,7 @@
-ghost use Rattle.std.specs.Prelude.{◌≡◌, ◌↔◌, ◌≤◌, ℕ, true, map, string_bytes, decimal, Err, IfOk, IfSome, IfNone};
+ghost use Rattle.std.specs.Prelude.{◌≡◌, ◌≤◌, ℕ, List, false, IsTrue, map, string_bytes, decimal, Err, IfOk, IfSome, IfNone};
 ghost use Rattle.crude_run.specs.declared.words.Ask.{Ask};
 ghost use Rattle.crude_run.specs.Words.{is_file_word, IsPlainLine, AreRefused};
-ghost use Rattle.crude_run.specs.WordReading.{is_solve, is_check, IsAskOf, IsSolveLine, IsCheckLine};
+ghost use Rattle.crude_run.specs.WordReading.{is_solve, IsAskOf, IsSolveLine, NameTwoFiles, NameOneFile, names_two_files, names_one_file};
 
 use limits::{MOST_NODES, MOST_SLOTS};
 use line_text::{decimal_laws, read_decimal};
@@ -50,6 +50,10 @@ pub enum Command {
     Solve { plant: FileName, ask: Ask },
     /// Whether the dossier of the second file is accepted for the plant of the first.
     Check { plant: FileName, dossier: FileName },
+    /// How the plan of the second file runs in the plant of the first: its ledger, or the first rule that it breaks.
+    Replay { plant: FileName, plan: FileName },
+    /// The one text of the plant of this file.
+    Show { plant: FileName },
 }
 
 /// Why words are no command.
@@ -81,10 +85,19 @@ pub fn read_words(alloc: Global, words: &[String]) -> Result<Command, WordFault>
         let plant = file_name(alloc, words[1].as_str())?;
         return Ok(Command::Solve { plant, ask });
     }
-    if is_check_line(words) {
-        let plant = file_name(alloc, words[1].as_str())?;
-        let dossier = file_name(alloc, words[2].as_str())?;
+    if let Some((plant, dossier)) = two_files(words, "check") {
+        let plant = file_name(alloc, plant)?;
+        let dossier = file_name(alloc, dossier)?;
         return Ok(Command::Check { plant, dossier });
+    }
+    if let Some((plant, plan)) = two_files(words, "replay") {
+        let plant = file_name(alloc, plant)?;
+        let plan = file_name(alloc, plan)?;
+        return Ok(Command::Replay { plant, plan });
+    }
+    if let Some(plant) = one_file(words, "show") {
+        let plant = file_name(alloc, plant)?;
+        return Ok(Command::Show { plant });
     }
     Err(WordFault::Words)
 }
@@ -97,21 +110,58 @@ fn file_name(alloc: Global, word: &str) -> Result<FileName, AllocError>
     Ok(FileName { text })
 }
 
-/// Whether the words are a plain line of `check`.
-fn is_check_line(words: &[String]) -> bool
-    ensures { (result ≡ true) ↔ IsCheckLine (map string_bytes words.now) }
+/// The two files that the words name behind this verb, where they are a verb and two files.
+fn two_files<'a>(words: &'a [String], verb: &str) -> Option<(&'a str, &'a str)>
+    ensures found { IfSome result (λ files. NameTwoFiles verb.now (map string_bytes words.now) files.0.now files.1.now) }
+    ensures none { IfNone result ((first second : List ℕ)
+        → NameTwoFiles verb.now (map string_bytes words.now) first second → ⊥) }
 {
     match words {
-        [verb, plant, dossier] => is_check(verb.as_str(), plant.as_str(), dossier.as_str()),
-        _ => false,
+        [word, first, second] => { two_names(verb, word.as_str(), first.as_str(), second.as_str()) }
+        _ => None,
     }
 }
 
-/// Whether three words are a line of `check`.
-fn is_check(verb: &str, plant: &str, dossier: &str) -> bool
-    ensures { result ≡ is_check verb.now plant.now dossier.now }
+/// The last two of three words, where the first is the verb and they name files.
+fn two_names<'a>(
+    verb: &str,
+    word: &str,
+    first: &'a str,
+    second: &'a str,
+) -> Option<(&'a str, &'a str)>
+    ensures found { IfSome result (λ files. IsTrue (names_two_files verb.now word.now first.entry.now second.entry.now)
+        × (files.0.now ≡ first.entry.now) × (files.1.now ≡ second.entry.now)) }
+    ensures none { IfNone result (names_two_files verb.now word.now first.entry.now second.entry.now ≡ false) }
 {
-    verb == "check" && is_file_word(plant) && is_file_word(dossier)
+    if word == verb && is_file_word(first) && is_file_word(second) {
+        Some((first, second))
+    } else {
+        None
+    }
+}
+
+/// The file that the words name behind this verb, where they are a verb and a file.
+fn one_file<'a>(words: &'a [String], verb: &str) -> Option<&'a str>
+    ensures found { IfSome result (λ file. NameOneFile verb.now (map string_bytes words.now) file.now) }
+    ensures none { IfNone result ((file : List ℕ) → NameOneFile verb.now (map string_bytes words.now) file → ⊥) }
+{
+    match words {
+        [word, file] => one_name(verb, word.as_str(), file.as_str()),
+        _ => None,
+    }
+}
+
+/// The second of two words, where the first is the verb and it names a file.
+fn one_name<'a>(verb: &str, word: &str, file: &'a str) -> Option<&'a str>
+    ensures found { IfSome result (λ named. IsTrue (names_one_file verb.now word.now file.entry.now)
+        × (named.now ≡ file.entry.now)) }
+    ensures none { IfNone result (names_one_file verb.now word.now file.entry.now ≡ false) }
+{
+    if word == verb && is_file_word(file) {
+        Some(file)
+    } else {
+        None
+    }
 }
 
 /// What a plain line of `solve` asks for.

@@ -1,2 +1,4 @@
--- What only the reader of a line keeps.
+-- What only readers and writers of lines keep.
 pub mod Fields
+pub mod Steps
+pub mod Running

@@ -10,9 +10,17 @@
 //! word. Then read `op_line`.
 #![tactic(auto)]
 
+mod fault;
+mod laws;
+mod ledger_text;
 mod op_line;
+mod plan;
 
+pub use fault::PlanTextFault;
+pub use laws::{ledger_laws, plan_text_laws};
+pub use ledger_text::ledger;
 pub use op_line::{OpLine, OpLines, push_op_line, read_op_line};
+pub use plan::{print_plan, read_plan};
 
 #[cfg(test)]
 mod tests;

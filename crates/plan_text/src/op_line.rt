@@ -28,16 +28,27 @@ pub struct OpLine {
 /// The lines of a plan in order.
 pub type OpLines = Items<OpLine>;
 
-fn write_op_line(out: &mut Vec<u8>, line: &OpLine) -> Result<(), AllocError>
-    ensures ok { OnOk result (out.new.items ≡ out.old.items ++ op_line_bytes line.now) }
+/// The words of a line, the name where it stands: in the text, in a line, or in a plant.
+#[derive(Clone, Copy)]
+pub(crate) struct Fields<'a> {
+    pub(crate) number: u32,
+    pub(crate) name: &'a [u8],
+    pub(crate) start: u32,
+    pub(crate) end: u32,
+    pub(crate) volume: u32,
+}
+
+/// Writes the line of these words at the end, without its line feed.
+pub(crate) fn write_fields(out: &mut Vec<u8>, fields: &Fields<'_>) -> Result<(), AllocError>
+    ensures ok { OnOk result (out.new.items ≡ out.old.items ++ op_line_bytes (fields_line fields.now)) }
     ensures kept { take (length out.old.items) out.new.items ≡ out.old.items }
 {
     push_text(out, b"op")?;
-    push_number(out, u64::from(line.number))?;
-    push_word(out, line.name.as_slice())?;
-    push_number(out, u64::from(line.start))?;
-    push_number(out, u64::from(line.end))?;
-    push_number(out, u64::from(line.volume))?;
+    push_number(out, u64::from(fields.number))?;
+    push_word(out, fields.name)?;
+    push_number(out, u64::from(fields.start))?;
+    push_number(out, u64::from(fields.end))?;
+    push_number(out, u64::from(fields.volume))?;
     Ok(())
 }
 
@@ -47,25 +58,22 @@ pub fn push_op_line(out: &mut Vec<u8>, line: &OpLine) -> Result<(), AllocError>
     ensures ok { OnOk result (out.new.items ≡ out.old.items ++ op_line_bytes line.now) }
     ensures err { OnErr result (out.new.items ≡ out.old.items) }
 {
+    let fields = Fields {
+        number: line.number,
+        name: line.name.as_slice(),
+        start: line.start,
+        end: line.end,
+        volume: line.volume,
+    };
     let length = out.len();
-    let written = write_op_line(out, line);
+    let written = write_fields(out, &fields);
     keep_whole(out, length, written)
-}
-
-/// The words of a line, the name where it stands in the line.
-#[derive(Clone, Copy)]
-struct Fields<'a> {
-    number: u32,
-    name: &'a [u8],
-    start: u32,
-    end: u32,
-    volume: u32,
 }
 
 const LARGEST: u64 = 0xffff_ffff;
 
 #[tactic(auto, unfolding(crate::specs::OpLine::op_line_at))]
-fn fields_of(line: &[u8]) -> Option<Fields<'_>>
+pub(crate) fn fields_of(line: &[u8]) -> Option<Fields<'_>>
     ensures { option_map fields_line result ≡ op_line_at (words_of line.now) }
 {
     let mut words = Words::new(line);

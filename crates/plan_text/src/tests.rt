@@ -1,5 +1,9 @@
 use super::*;
-use plant_model::Name;
+use plant_model::{Name, Plant};
+use replay_core::{Broken, Plan, ReplayFault, Timed};
+use sample_plants::one_charge;
+use std::alloc::Global;
+use std::process::Abort;
 use std::test::Fail;
 
 #[test]
@@ -46,6 +50,152 @@ fn reads_no_other_line(rt: HostRuntime) -> Result<(), Fail> {
             read_op_line(rt.alloc(), line.as_bytes())?.is_none(),
             "{line}"
         );
+    }
+    Ok(())
+}
+
+fn sample(alloc: Global) -> Result<Plant, Fail> {
+    let parts = one_charge().parts(alloc)?;
+    Ok(Plant::new(alloc, parts)?)
+}
+
+// A text, and the number of its first line that is none of a plan. As with the other tables, the function beside it
+// promises nothing of it.
+const TEXTS: &[(&str, Option<u32>)] = &[
+    ("", None),
+    ("op 1 c1 0 1 2\n", None),
+    ("op 1 c1 0 1 2\nop 2 c1 1 2 2\n", None),
+    ("op 1 c1 9 1 0\n", None),
+    ("op 1 c1 0 1 2", Some(1)),
+    ("op 2 c1 0 1 2\n", Some(1)),
+    ("op 0 c1 0 1 2\n", Some(1)),
+    ("\n", Some(1)),
+    ("op 1 c1 0 1 2\n\n", Some(2)),
+    ("op 1 c1 0 1 2\nop 1 c1 1 2 2\n", Some(2)),
+    ("op 1 c1 0 1 2\nop 2 c1 1 2 2", Some(2)),
+    ("op 1 c1 0 1 2\r\n", Some(1)),
+];
+
+fn texts() -> &'static [(&'static str, Option<u32>)] {
+    TEXTS
+}
+
+// Whether the text is read as a plan and printed as it was, or refused at that line.
+fn is_read(alloc: Global, plant: &Plant, text: &[u8], wanted: Option<u32>) -> Result<bool, Fail> {
+    match read_plan(alloc, plant, text) {
+        Err(PlanTextFault::Line(number)) => Ok(wanted == Some(number)),
+        Err(PlanTextFault::Memory) => Ok(false),
+        Ok(plan) => Ok(wanted.is_none() && is_printed(alloc, plant, &plan, text)?),
+    }
+}
+
+// Whether the plan, whose operations are the first one, is printed so.
+fn is_printed(alloc: Global, plant: &Plant, plan: &Plan, text: &[u8]) -> Result<bool, Fail> {
+    let plan = plan.as_slice();
+    if plan.len() > 1000 || plan.iter().any(|t| t.op >= plant.op_count()) {
+        return Ok(false);
+    }
+    Ok(print_plan(alloc, plant, plan)?.as_slice() == text)
+}
+
+#[test]
+fn reads_and_prints_plans(rt: HostRuntime) -> Result<(), Fail> {
+    let plant = sample(rt.alloc())?;
+    for (text, wanted) in texts() {
+        assert!(rt;
+            is_read(rt.alloc(), &plant, text.as_bytes(), *wanted)?,
+            "{text}"
+        );
+    }
+    Ok(())
+}
+
+// So many lines of a plan.
+fn many_lines(alloc: Global, count: u32) -> Result<Vec<u8>, Fail> {
+    let mut text = Vec::new(alloc);
+    for number in 0..count {
+        let line = OpLine {
+            number: number.saturating_add(1),
+            name: Name::new(alloc, b"zz")?,
+            start: 0,
+            end: 1,
+            volume: 2,
+        };
+        push_op_line(&mut text, &line)?;
+        text.push(b'\n')?;
+    }
+    Ok(text)
+}
+
+#[test]
+fn reads_a_thousand_lines(rt: HostRuntime) -> Result<(), Fail> {
+    let plant = sample(rt.alloc())?;
+    for (count, wanted) in [
+        (1000, Ok((1000, Some(255)))),
+        (1001, Err(PlanTextFault::Line(1001))),
+    ] {
+        let text = many_lines(rt.alloc(), count)?;
+        let read = read_plan(rt.alloc(), &plant, &text);
+        let seen = read.map(|plan| {
+            let steps = plan.as_slice();
+            (steps.len(), steps.last().map(|t| t.op))
+        });
+        assert_eq!(rt; seen, wanted);
+    }
+    Ok(())
+}
+
+const LEDGER: &str = "legal
+margin 12
+operations 2
+op 1 c1 0 1 2
+draw 2
+from C1 2 2
+to U 2 2
+op 2 c1 1 2 2
+draw 2
+from C1 0 0
+to U 4 4
+unit U 2 2 4 4
+";
+
+fn twice(volume: u32) -> [Timed; 2] {
+    let first = Timed {
+        op: 0,
+        start: 0,
+        end: 1,
+        volume: 2,
+    };
+    let second = Timed {
+        op: 0,
+        start: 1,
+        end: 2,
+        volume,
+    };
+    [first, second]
+}
+
+// What the ledger of a charge of 2 and one of this volume is, as text.
+fn assert_ledger(
+    rt: &impl Abort,
+    alloc: Global,
+    plant: &Plant,
+    volume: u32,
+    wanted: Result<&str, ReplayFault>,
+) {
+    match (ledger(alloc, plant, twice(volume).as_slice()), wanted) {
+        (Ok(text), Ok(wanted)) => assert_eq!(rt; text.as_slice(), wanted.as_bytes()),
+        (Err(fault), Err(wanted)) => assert_eq!(rt; fault, wanted),
+        _ => assert!(rt; false, "one of them is a ledger"),
+    }
+}
+
+#[test]
+fn writes_ledgers_of_legal_plans(rt: HostRuntime) -> Result<(), Fail> {
+    let plant = sample(rt.alloc())?;
+    let broken = Broken { rule: 5, at: 2 };
+    for (volume, wanted) in [(2, Ok(LEDGER)), (3, Err(ReplayFault::Rule(broken)))] {
+        assert_ledger(&rt, rt.alloc(), &plant, volume, wanted);
     }
     Ok(())
 }

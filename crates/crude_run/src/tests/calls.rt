@@ -1,10 +1,14 @@
 //! Each public call that takes memory, with enough of it.
 
 use super::runs::{SOUND, shelf, sink, words};
-use super::samples::{one_charge, one_charge_open, one_dual, yes_of_twelve};
+use super::samples::{
+    one_charge, one_charge_open, one_dual, two_inlets, two_inlets_ledger, two_inlets_plan,
+    yes_of_twelve,
+};
 use crate::*;
 use outer_edge::FreeGate;
 use plant_text::read_plant;
+use std::alloc::Global;
 use std::test::Fail;
 
 /// Whether the command asks for so many slots, nodes and workers.
@@ -13,7 +17,7 @@ fn asks(command: &Command, file: &str, numbers: (u32, u32, u32)) -> bool {
         Command::Solve { plant, ask } => {
             plant.as_str() == file && (ask.slots, ask.nodes, ask.workers) == numbers
         }
-        Command::Check { .. } => false,
+        _ => false,
     }
 }
 
@@ -29,15 +33,34 @@ fn reads_a_plain_line(rt: HostRuntime) -> Result<(), Fail> {
     Ok(())
 }
 
+/// Whether the command names these files, the second of which may be none.
+fn has_files(command: &Command, wanted: (&str, &str)) -> bool {
+    match command {
+        Command::Check { plant, dossier } => {
+            plant.as_str() == wanted.0 && dossier.as_str() == wanted.1
+        }
+        Command::Replay { plant, plan } => plant.as_str() == wanted.0 && plan.as_str() == wanted.1,
+        Command::Show { plant } => plant.as_str() == wanted.0,
+        Command::Solve { .. } => false,
+    }
+}
+
+/// Whether the line is read as a command that names these files.
+fn names(alloc: Global, line: &str, wanted: (&str, &str)) -> Result<bool, Fail> {
+    let words = words(alloc, line)?;
+    let command = read_words(alloc, &words)?;
+    Ok(has_files(&command, wanted))
+}
+
 #[test]
-fn reads_a_line_of_check(rt: HostRuntime) -> Result<(), Fail> {
-    let line = words(rt.alloc(), "check a.json b.txt")?;
-    let command = read_words(rt.alloc(), &line)?;
-    let Command::Check { plant, dossier } = &command else {
-        panic!(rt; "{command:?}");
-    };
-    assert_eq!(rt; plant.as_str(), "a.json");
-    assert_eq!(rt; dossier.as_str(), "b.txt");
+fn reads_lines_that_name_files(rt: HostRuntime) -> Result<(), Fail> {
+    for (line, wanted) in [
+        ("check a.json b.txt", ("a.json", "b.txt")),
+        ("replay a.json b.txt", ("a.json", "b.txt")),
+        ("show a.json", ("a.json", "")),
+    ] {
+        assert!(rt; names(rt.alloc(), line, wanted)?, "{line}");
+    }
     Ok(())
 }
 
@@ -68,5 +91,31 @@ fn checks_a_file(rt: HostRuntime) -> Result<(), Fail> {
     let status = check_files(alloc, "plant", "dossier", &mut shelf, &mut out);
     assert_eq!(rt; status.code(), 0);
     assert_eq!(rt; out.as_slice(), yes_of_twelve().as_bytes());
+    Ok(())
+}
+
+#[test]
+fn replays_a_file(rt: HostRuntime) -> Result<(), Fail> {
+    let alloc = rt.alloc();
+    let (plant, plan) = (two_inlets().as_bytes(), two_inlets_plan().as_bytes());
+    let mut shelf = shelf(alloc, plant, plan, SOUND)?;
+    let mut out = sink(alloc, SOUND)?;
+    let status = replay_files(alloc, "plant", "plan", &mut shelf, &mut out);
+    assert_eq!(rt; status.code(), 0);
+    assert_eq!(rt; out.as_slice(), two_inlets_ledger().as_bytes());
+    Ok(())
+}
+
+#[test]
+fn shows_a_file(rt: HostRuntime) -> Result<(), Fail> {
+    let alloc = rt.alloc();
+    let mut shelf = shelf(alloc, one_charge().as_bytes(), b"", SOUND)?;
+    let mut out = sink(alloc, SOUND)?;
+    let status = show_file(alloc, "plant", &mut shelf, &mut out);
+    assert_eq!(rt; status.code(), 0);
+    assert_eq!(rt;
+        out.as_slice().strip_suffix(b"\n"),
+        Some(one_charge().as_bytes())
+    );
     Ok(())
 }

@@ -2,7 +2,8 @@
 
 use super::runs::{Ended, Outside, SOUND, outcome, outcome_with};
 use super::samples::{
-    fixed_rate, one_charge, one_charge_open, one_dual, split_once, two_inlets, with, yes_of_twelve,
+    fixed_rate, one_charge, one_charge_open, one_dual, split_once, two_inlets, two_vessels, with,
+    yes_of_twelve,
 };
 use std::alloc::{AllocError, Global};
 use std::test::Fail;
@@ -127,14 +128,31 @@ fn misses_the_next_line(rt: HostRuntime) -> Result<(), Fail> {
 #[test]
 fn refuses_the_plant_first(rt: HostRuntime) -> Result<(), Fail> {
     let ended = outcome(rt.alloc(), "check dossier other", b"", SOUND)?;
-    assert!(rt; ended.is(65, "refused plant\n"), "{ended:?}");
-    let ended = outcome(
-        rt.alloc(),
-        "check plant other",
-        two_inlets().as_bytes(),
-        SOUND,
-    )?;
-    assert!(rt; ended.is(69, "not yet storage\n"), "{ended:?}");
+    assert!(rt; ended.is(65, "refused plant json\n"), "{ended:?}");
+    Ok(())
+}
+
+// The root of `two_inlets` could earn no more than 10.
+#[test]
+fn says_no_of_a_dossier_on_another_plant(rt: HostRuntime) -> Result<(), Fail> {
+    let (plant, dossier) = (two_inlets().as_bytes(), one_dual().as_bytes());
+    let ended = outcome_with(rt.alloc(), CHECK, plant, dossier, SOUND)?;
+    assert!(rt; ended.is(1, "no 15 7\n"), "{ended:?}");
+    Ok(())
+}
+
+// Three divisions reach no point of `two_vessels`.
+#[test]
+fn says_yes_of_a_bound_on_a_whole_plant(rt: HostRuntime) -> Result<(), Fail> {
+    let plant = two_vessels().as_bytes();
+    let line = "solve plant --slots 8 --nodes 3 --workers 1";
+    let solved = outcome(rt.alloc(), line, plant, SOUND)?;
+    assert!(rt; solved.claims(4, "\nanswer open\n"), "{solved:?}");
+    let ended = outcome_with(rt.alloc(), CHECK, plant, solved.written(), SOUND)?;
+    assert!(rt;
+        ended.claims(0, "yes\nanswer open\nmargin none\nbound "),
+        "{ended:?}"
+    );
     Ok(())
 }
 

@@ -1,8 +1,11 @@
 //! What `solve` answers to the plant file that it reads.
 
 use super::runs::{Ended, Outside, SOUND, outcome};
-use super::samples::{one_charge, one_charge_open, two_inlets, two_vessels, with};
+use super::samples::{
+    late_vessel, one_berth, one_charge, one_charge_open, two_berths, two_vessels, with,
+};
 use std::alloc::{AllocError, Global};
+use std::process::Abort;
 use std::test::Fail;
 
 const SOLVE: &str = "solve plant --slots 1 --nodes 0 --workers 1";
@@ -18,38 +21,100 @@ fn leaves_one_charge_open(rt: HostRuntime) -> Result<(), Fail> {
     Ok(())
 }
 
-#[test]
-fn waits_for_storage(rt: HostRuntime) -> Result<(), Fail> {
-    let ended = solved(rt.alloc(), two_inlets().as_bytes())?;
-    assert!(rt; ended.is(69, "not yet storage\n"), "{ended:?}");
-    Ok(())
+// A part of the plant, what stands in its place, and what is answered.
+type Case = (&'static str, &'static str, &'static str);
+
+fn one_charge_cases() -> &'static [Case] {
+    &[
+        (r#"],"vessels""#, r#",],"vessels""#, "refused plant json\n"),
+        (
+            r#""horizon":2"#,
+            r#""horizon":2.0"#,
+            "refused plant shape plant 0 horizon\n",
+        ),
+        (
+            r#":2,"properties":[],"crudes":[{"name":"A","margin":3"#,
+            r#":0,"properties":[],"crudes":[{"name":"A","margin":1000001"#,
+            "refused plant 1 plant 0 horizon\n",
+        ),
+    ]
 }
 
-#[test]
-fn waits_for_properties(rt: HostRuntime) -> Result<(), Fail> {
-    let ended = solved(rt.alloc(), two_vessels().as_bytes())?;
-    assert!(rt; ended.is(69, "not yet properties\n"), "{ended:?}");
-    Ok(())
+fn two_vessels_cases() -> &'static [Case] {
+    &[(
+        r#""arrival":0,"amounts":[1000000,0]},{"name":"V2","arrival":5760"#,
+        r#""arrival":5,"amounts":[1000000,0]},{"name":"V2","arrival":3"#,
+        "refused plant 16 vessels 2 arrival\n",
+    )]
 }
 
-fn is_refused(alloc: Global, plant: &str) -> Result<bool, AllocError> {
-    let ended = solved(alloc, plant.as_bytes())?;
-    Ok(ended.is(65, "refused plant\n"))
+fn two_berths_cases() -> &'static [Case] {
+    &[
+        (r#","berth":1"#, "", "refused plant shape vessels 1 berth\n"),
+        (
+            r#""berth":1"#,
+            r#""berth":13"#,
+            "refused plant 23 vessels 1 berth\n",
+        ),
+    ]
+}
+
+fn one_berth_cases() -> &'static [Case] {
+    &[(
+        r#""amounts":[4]"#,
+        r#""amounts":[4],"berth":1"#,
+        "refused plant shape vessels 1 entry\n",
+    )]
+}
+
+fn late_vessel_cases() -> &'static [Case] {
+    &[
+        (
+            r#""demurrage":5"#,
+            r#""demurrage":1001"#,
+            "refused plant 24 vessels 1 demurrage\n",
+        ),
+        (
+            r#""format":3"#,
+            r#""format":4"#,
+            "refused plant shape plant 0 format\n",
+        ),
+    ]
+}
+
+fn cases() -> [(&'static str, &'static [Case]); 5] {
+    [
+        (one_charge(), one_charge_cases()),
+        (two_vessels(), two_vessels_cases()),
+        (two_berths(), two_berths_cases()),
+        (one_berth(), one_berth_cases()),
+        (late_vessel(), late_vessel_cases()),
+    ]
+}
+
+/// How `solve` of the plant with the other part ends.
+fn solved_with(alloc: Global, plant: &str, case: Case) -> Result<Ended, Fail> {
+    let changed = with(alloc, plant, case.0, case.1)?;
+    Ok(solved(alloc, changed.as_bytes())?)
+}
+
+fn assert_refused(
+    rt: &impl Abort,
+    alloc: Global,
+    plant: &str,
+    refused: &[Case],
+) -> Result<(), Fail> {
+    for case in refused {
+        let ended = solved_with(alloc, plant, *case)?;
+        assert!(rt; ended.is(65, case.2), "{case:?}: {ended:?}");
+    }
+    Ok(())
 }
 
 #[test]
 fn refuses_plants(rt: HostRuntime) -> Result<(), Fail> {
-    let alloc = rt.alloc();
-    for (part, other) in [
-        // no JSON
-        (r#"],"vessels""#, r#",],"vessels""#),
-        // a number of another kind
-        (r#""horizon":2"#, r#""horizon":2.0"#),
-        // a number out of range
-        (r#""horizon":2"#, r#""horizon":0"#),
-    ] {
-        let plant = with(alloc, one_charge(), part, other)?;
-        assert!(rt; is_refused(alloc, plant.as_str())?, "{other}");
+    for (plant, refused) in cases() {
+        assert_refused(&rt, rt.alloc(), plant, refused)?;
     }
     Ok(())
 }
@@ -79,7 +144,7 @@ fn blanks(alloc: Global, count: usize) -> Result<Vec<u8>, AllocError> {
 fn reads_no_more_than_the_limit(rt: HostRuntime) -> Result<(), Fail> {
     let alloc = rt.alloc();
     let ended = solved(alloc, &blanks(alloc, 4_194_304)?)?;
-    assert!(rt; ended.is(65, "refused plant\n"), "{ended:?}");
+    assert!(rt; ended.is(65, "refused plant json\n"), "{ended:?}");
     let ended = solved(alloc, &blanks(alloc, 4_194_305)?)?;
     assert!(rt; ended.is(67, "too long 1\n"), "{ended:?}");
     Ok(())

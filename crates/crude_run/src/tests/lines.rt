@@ -29,6 +29,13 @@ fn refuses_words(rt: HostRuntime) -> Result<(), Fail> {
         "check plant -",
         "check plant dossier more",
         "Check plant dossier",
+        "replay plant",
+        "replay plant -plan",
+        "replay plant plan more",
+        "show",
+        "show -plant",
+        "show plant more",
+        "make",
     ] {
         assert!(rt; is_refused(rt.alloc(), line)?, "{line}");
     }

@@ -1,7 +1,7 @@
 //! What `solve` finds of the sample plants, with one slot.
 
 use super::runs::{Ended, SOUND, outcome};
-use super::samples::{fixed_rate, losing_charge, one_charge};
+use super::samples::{fixed_rate, late_vessel, losing_charge, one_charge};
 use crate::solve_alone;
 use dossier_check::{Verdict, check};
 use outer_edge::FreeGate;
@@ -29,6 +29,15 @@ fn charges_all_that_there_is(rt: HostRuntime) -> Result<(), Fail> {
 fn charges_nothing_at_a_loss(rt: HostRuntime) -> Result<(), Fail> {
     let ended = solved(rt.alloc(), EIGHT, losing_charge())?;
     let lines = "\nanswer plan\nmargin 0\nbound 0\nplan 0\ncuts 0\n";
+    assert!(rt; ended.claims(0, lines), "{ended:?}");
+    Ok(())
+}
+
+#[test]
+fn waits_no_longer_than_it_must(rt: HostRuntime) -> Result<(), Fail> {
+    let line = "solve plant --slots 1 --nodes 125 --workers 1";
+    let ended = solved(rt.alloc(), line, late_vessel())?;
+    let lines = "\nanswer plan\nmargin -10\nbound -10\nplan 1\nop 1 u1 1 3 4\ncuts 0\n";
     assert!(rt; ended.claims(0, lines), "{ended:?}");
     Ok(())
 }

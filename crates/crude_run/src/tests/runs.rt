@@ -28,7 +28,7 @@ impl Ended {
         &self.written
     }
 
-    /// Whether it ended so, with a dossier of which these lines come behind the number of nodes.
+    /// Whether it ended so, with a text in which these lines stand.
     pub fn claims(&self, status: u8, lines: &str) -> bool {
         self.status == status
             && str::from_utf8(&self.written).is_ok_and(|text| text.contains(lines))
@@ -60,16 +60,17 @@ pub fn words(alloc: Global, line: &str) -> Result<Vec<String>, AllocError> {
     Ok(words)
 }
 
-/// A shelf with two files, `plant` and `dossier`.
+/// A shelf with the file `plant`, and a second one that is there as `dossier` and as `plan`.
 pub fn shelf(
     alloc: Global,
     plant: &[u8],
-    dossier: &[u8],
+    second: &[u8],
     outside: Outside,
 ) -> Result<MemoryShelf, AllocError> {
     let mut files = FileList::new(alloc);
     files.push("plant", plant)?;
-    files.push("dossier", dossier)?;
+    files.push("dossier", second)?;
+    files.push("plan", second)?;
     MemoryShelf::new(alloc, files, Copies::new(alloc, &[outside.read])?)
 }
 
@@ -89,16 +90,16 @@ pub fn outcome(
     outcome_with(alloc, line, plant, b"", outside)
 }
 
-/// How a run on this plant and this dossier ends.
+/// How a run on this plant and this second file ends.
 pub fn outcome_with(
     alloc: Global,
     line: &str,
     plant: &[u8],
-    dossier: &[u8],
+    second: &[u8],
     outside: Outside,
 ) -> Result<Ended, AllocError> {
     let words = words(alloc, line)?;
-    let mut shelf = shelf(alloc, plant, dossier, outside)?;
+    let mut shelf = shelf(alloc, plant, second, outside)?;
     let mut out = sink(alloc, outside)?;
     let status = run(alloc, &words, &mut shelf, &mut out, &FreeGate).code();
     let written = Vec::from_slice(alloc, out.as_slice())?;

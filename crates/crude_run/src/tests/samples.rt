@@ -27,6 +27,44 @@ const TWO_INLETS: &str =
 const TWO_VESSELS: &str =
     r#"{"format":1,"horizon":11520,"properties":["sulphur"],"crudes":[{"name":"A","margin":9,"properties":[100]},{"name":"B","margin":6,"properties":[600]}],"vessels":[{"name":"V1","arrival":0,"amounts":[1000000,0]},{"name":"V2","arrival":5760,"amounts":[0,1000000]}],"storage":[{"name":"S1","min":0,"max":2000000,"amounts":[250000,0]},{"name":"S2","min":0,"max":2000000,"amounts":[0,750000]}],"charging":[{"name":"C1","min":0,"max":1000000,"amounts":[500000,0],"demand":[0,1000000]},{"name":"C2","min":0,"max":1000000,"amounts":[0,500000],"demand":[0,1000000]}],"units":[{"name":"CDU","continuous":true,"charges":[2,8]}],"operations":[{"name":"u1","from":"V1","to":"S1","rate":[0,500000],"volume":[1,1000000],"window":[0,11520],"limits":[]},{"name":"u2","from":"V2","to":"S2","rate":[0,500000],"volume":[1,1000000],"window":[5760,11520],"limits":[]},{"name":"t1","from":"S1","to":"C1","rate":[0,500000],"volume":[1,1000000],"window":[0,11520],"limits":[]},{"name":"t2","from":"S1","to":"C2","rate":[0,500000],"volume":[1,1000000],"window":[0,11520],"limits":[]},{"name":"t3","from":"S2","to":"C1","rate":[0,500000],"volume":[1,1000000],"window":[0,11520],"limits":[]},{"name":"t4","from":"S2","to":"C2","rate":[0,500000],"volume":[1,1000000],"window":[0,11520],"limits":[]},{"name":"c1","from":"C1","to":"CDU","rate":[50000,500000],"volume":[1,1000000],"window":[0,11520],"limits":[[0,150]]},{"name":"c2","from":"C2","to":"CDU","rate":[50000,500000],"volume":[1,1000000],"window":[0,11520],"limits":[[0,700]]}]}"#;
 
+// Two vessels at two berths, each unloaded into a tank of its own.
+const TWO_BERTHS: &str =
+    r#"{"format":2,"horizon":2,"properties":[],"crudes":[{"name":"A","margin":1,"properties":[]}],"vessels":[{"name":"V1","arrival":0,"amounts":[4],"berth":1},{"name":"V2","arrival":0,"amounts":[4],"berth":2}],"storage":[{"name":"S1","min":0,"max":10,"amounts":[0]},{"name":"S2","min":0,"max":10,"amounts":[0]}],"charging":[],"units":[],"operations":[{"name":"u1","from":"V1","to":"S1","rate":[0,2880],"volume":[1,4],"window":[0,2],"limits":[]},{"name":"u2","from":"V2","to":"S2","rate":[0,2880],"volume":[1,4],"window":[0,2],"limits":[]}]}"#;
+
+// The same vessels at one berth, in the format that tells none.
+const ONE_BERTH: &str =
+    r#"{"format":1,"horizon":2,"properties":[],"crudes":[{"name":"A","margin":1,"properties":[]}],"vessels":[{"name":"V1","arrival":0,"amounts":[4]},{"name":"V2","arrival":0,"amounts":[4]}],"storage":[{"name":"S1","min":0,"max":10,"amounts":[0]},{"name":"S2","min":0,"max":10,"amounts":[0]}],"charging":[],"units":[],"operations":[{"name":"u1","from":"V1","to":"S1","rate":[0,2880],"volume":[1,4],"window":[0,2],"limits":[]},{"name":"u2","from":"V2","to":"S2","rate":[0,2880],"volume":[1,4],"window":[0,2],"limits":[]}]}"#;
+
+// A vessel that pays 5 for each minute of waiting.
+const LATE_VESSEL: &str =
+    r#"{"format":3,"horizon":4,"properties":[],"crudes":[{"name":"A","margin":1,"properties":[]}],"vessels":[{"name":"V1","arrival":1,"amounts":[4],"berth":1,"demurrage":5}],"storage":[{"name":"S1","min":0,"max":10,"amounts":[0]}],"charging":[],"units":[],"operations":[{"name":"u1","from":"V1","to":"S1","rate":[0,2880],"volume":[1,4],"window":[1,4],"limits":[]}]}"#;
+
+pub fn two_berths() -> &'static str {
+    TWO_BERTHS
+}
+
+pub fn one_berth() -> &'static str {
+    ONE_BERTH
+}
+
+pub fn late_vessel() -> &'static str {
+    LATE_VESSEL
+}
+
+// A plan for `two_inlets`, and its ledger.
+const TWO_INLETS_PLAN: &str = "op 1 T1 0 2 4\nop 2 G 2 3 6\n";
+
+const TWO_INLETS_LEDGER: &str =
+    "legal\nmargin 6\noperations 2\nop 1 T1 0 2 4\ndraw 4\nfrom S1 1 1\nto C1 6 6\nop 2 G 2 3 6\ndraw 6\nfrom C1 0 0\nto U 6 6\nunit U 1 1 6 6\n";
+
+pub fn two_inlets_plan() -> &'static str {
+    TWO_INLETS_PLAN
+}
+
+pub fn two_inlets_ledger() -> &'static str {
+    TWO_INLETS_LEDGER
+}
+
 pub fn one_charge() -> &'static str {
     ONE_CHARGE
 }
