@@ -1,5 +1,5 @@
 -- Each word has a normal form: its operations take their seats one after the other.
-use Rattle.std.proofs.Common.{◌≡◌, ℕ, ◌+◌, ◌<◌, ◌≤◌, Bool, true, false, ◌||◌, eqb, IsTrue, List, [], ◌∷◌, ◌++◌, All, take, get_or, length, refl, sym, ap, subst, ◌∙◌, append_assoc, arith}
+use Rattle.std.proofs.Common.{◌≡◌, ℕ, ◌+◌, ◌<◌, Bool, true, false, ◌||◌, eqb, List, [], ◌∷◌, ◌++◌, take, get_or, length, refl, sym, ap, subst, ◌∙◌, append_assoc}
 use Rattle.std.specs.Prelude.{fold}
 use Rattle.std.specs.List.{filter, insert}
 use Rattle.std.proofs.lemmas.List.{append-nil, take_more}
@@ -15,7 +15,7 @@ use Rattle.slot_words.specs.Swaps.{AreEquivalent}
 use Rattle.slot_words.specs.Swaps.AreEquivalent.{itself}
 use Rattle.slot_words.proofs.ChainLaws.{joined, turned_round, ahead, same_entries}
 use Rattle.slot_words.proofs.WordLaws.{filter-same}
-use Rattle.normal_order.specs.NormalWords.{ops_of, AreKnown, IsNormalWord, is_no_later, is_op, IsNormalForm}
+use Rattle.normal_order.specs.NormalWords.{AreKnown, IsNormalWord, is_op, IsNormalForm}
 use Rattle.normal_order.specs.Laws.{WordsHaveNormalForms, NormalWordsAreLeast}
 use Rattle.normal_order.specs.inside.Seats.{seat_of, seated}
 use Rattle.normal_order.proofs.SeatLaws.{seated_at, seated_chain, seated_normal}

@@ -1,8 +1,8 @@
 -- A normal word comes before all words that are equivalent to it. What two words share that are equivalent is how any two
 -- operations alternate in them of which neither is independent of the other.
-use Rattle.std.proofs.Common.{◌≡◌, ◌≢◌, ◌⊎◌, ℕ, zero, suc, ◌+◌, ◌<◌, ◌≤◌, Bool, true, false, not, ◌&&◌, ◌||◌, ltb, eqb, cond, IsTrue, List, [], ◌∷◌, ◌++◌, All, length, map, get_or, refl, sym, ap, subst, inl, inr, ◌∙◌, append_assoc, arith}
+use Rattle.std.proofs.Common.{◌≡◌, ◌≢◌, ◌⊎◌, ℕ, zero, suc, ◌<◌, Bool, true, false, ◌||◌, eqb, IsTrue, List, [], ◌∷◌, ◌++◌, All, length, get_or, refl, sym, ap, subst, inl, inr, ◌∙◌, arith}
 use Rattle.std.specs.List.{filter}
-use Rattle.std.proofs.lemmas.Bool.{cases_Bool, cases_eq, cases_lt, or_parts, eqb-true, eq-eqb, ne_eqb, lt-ltb, le-ltb}
+use Rattle.std.proofs.lemmas.Bool.{cases_Bool, cases_eq, cases_lt, eq-eqb, ne_eqb, lt-ltb, le-ltb}
 use Rattle.std.proofs.lemmas.Bool.Decides.{nat_tests}
 use Rattle.std.proofs.lemmas.List.{map-append}
 use Rattle.std.proofs.lemmas.List.Elements.{All-head, All-tail, All-nil, All-cons, filter-append}
@@ -15,12 +15,12 @@ use Rattle.plant_model.specs.Relations.{independent_of}
 use Rattle.plant_model.proofs.RelationLaws.{independent_of-symmetric, apart_from_independent}
 use Rattle.replay_core.specs.declared.timed.Timed.{Timed}
 use Rattle.slot_automaton.specs.Independence.{IsIndependent}
-use Rattle.slot_automaton.specs.Normal.{IsNormal, IsOutOfOrder}
+use Rattle.slot_automaton.specs.Normal.{IsNormal}
 use Rattle.slot_automaton.proofs.WordLemmas.{parts_are_normal}
 use Rattle.overlap_graph.specs.Independence.{independence_of}
-use Rattle.slot_words.specs.Swaps.{IsSwap, AreEquivalent}
+use Rattle.slot_words.specs.Swaps.{AreEquivalent}
 use Rattle.slot_words.specs.Swaps.AreEquivalent.{itself, swapped}
-use Rattle.normal_order.specs.NormalWords.{ops_of, AreKnown, IsNormalWord, is_no_later, is_op}
+use Rattle.normal_order.specs.NormalWords.{ops_of, AreKnown, IsNormalWord, is_no_later}
 use Rattle.normal_order.proofs.SeatLaws.{independent_is}
 
 -- ---- turns
@@ -131,7 +131,7 @@ first_either a c (s ∷ front) back others k d within is =
       | inl same ↦ record { first = s; rest = filter (is_either a c) (front ++ back); is = rw (ne_eqb s.op a here, eq-eqb s.op c same) refl; not_it = here }
       | inr other ↦
           let found = first_either_later a c front back s (All-tail (λ (r : Timed). r.op ≢ a) s front others) k d within is other
-              (λ j e. first_either a c front back (All-tail (λ (r : Timed). r.op ≢ a) s front others) j e) in
+          (λ j e. first_either a c front back (All-tail (λ (r : Timed). r.op ≢ a) s front others) j e) in
           record { first = found.first; rest = found.rest; is = rw (ne_eqb s.op a here, ne_eqb s.op c other) found.is; not_it = found.not_it }
     ]
   where
@@ -185,6 +185,7 @@ less_cannot_come parts s t rest later each known normal turns less =
               let same = heads found.first t found.rest (filter (is_either t.op c) later) (sym found.is ∙ turns t.op c together ∙ begins) in
               absurd (found.not_it (ap (λ (r : Timed). r.op) same))
         ]
+
     free_ops : (parts : Parts) (v : ℕ) (front : List Timed) → v < op_count_of parts → AreKnown parts front → All (λ (r : Timed). independent_of parts v r.op ≡ true) front →
         All (λ (x : ℕ). IsIndependent (independence_of parts) v x) (ops_of front)
     free_ops parts v [] known each free = All-nil (λ (x : ℕ). IsIndependent (independence_of parts) v x)
@@ -194,6 +195,7 @@ less_cannot_come parts s t rest later each known normal turns less =
         ((independent_is parts v r.op known r_known).1 (All-head (λ (x : Timed). independent_of parts v x.op ≡ true) r front free))
         (free_ops parts v front known (All-tail (λ (x : Timed). x.op < op_count_of parts) r front each)
         (All-tail (λ (x : Timed). independent_of parts v x.op ≡ true) r front free))
+
     out_of_order : (parts : Parts) (s t : Timed) (rest later : List Timed) → AreKnown parts (s ∷ rest) → t.op < op_count_of parts → IsNormalWord parts (s ∷ rest) →
         TakeTurns parts (s ∷ rest) (t ∷ later) → t.op < s.op → (front : List Timed) (first : Timed) (back : List Timed) → s ∷ rest ≡ front ++ first ∷ back →
         first.op ≡ t.op → All (λ (r : Timed). r.op ≢ t.op) front → ⊥
@@ -209,7 +211,7 @@ less_cannot_come parts s t rest later each known normal turns less =
         let turns_there = λ (v w : ℕ) (together : independent_of parts v w ≡ false). sym (ap (filter (is_either v w)) is) ∙ turns v w together in
         let free = free_ops parts t.op (f ∷ front) known front_known (free_of parts t (f ∷ front) (first ∷ back) later turns_there others) in
         let letters : ops_of (s ∷ rest) ≡ [] ++ f.op ∷ ops_of front ++ t.op ∷ ops_of back =
-            ap ops_of is ∙ map-append (λ (r : Timed). r.op) (f ∷ front) (first ∷ back) ∙ ap (λ (n : ℕ). f.op ∷ ops_of front ++ n ∷ ops_of back) number in
+        ap ops_of is ∙ map-append (λ (r : Timed). r.op) (f ∷ front) (first ∷ back) ∙ ap (λ (n : ℕ). f.op ∷ ops_of front ++ n ∷ ops_of back) number in
         normal [] (ops_of front) (ops_of back) f.op t.op letters (record {
           less = (let number_of_f = ap (λ (r : Timed). r.op) f_is in omega arith);
           of_first = All-head (λ (x : ℕ). IsIndependent masks t.op x) f.op (ops_of front) free;
@@ -254,7 +256,7 @@ comes_first parts (s ∷ rest) (t ∷ later) known others normal turns =
             let whole : IsNormal masks ((s.op ∷ []) ++ ops_of rest ++ []) = rw (append-nil (ops_of rest)) normal in
             let rest_normal = parts_are_normal masks (s.op ∷ []) (ops_of rest) [] whole in
             let later_first = comes_first parts rest later (All-tail (λ (r : Timed). r.op < op_count_of parts) s rest known)
-                (All-tail (λ (r : Timed). r.op < op_count_of parts) t later others) rest_normal (turns_behind parts s t rest later same turns) in
+            (All-tail (λ (r : Timed). r.op < op_count_of parts) t later others) rest_normal (turns_behind parts s t rest later same turns) in
             rw (le-ltb s.op t.op no_less, eq-eqb s.op t.op same) later_first
         | inr other ↦ absurd (less_cannot_come parts s t rest later known t_known normal turns (omega arith))
       ]

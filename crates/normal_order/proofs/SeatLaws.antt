@@ -1,13 +1,12 @@
 -- An operation that takes its seat in a normal word leaves it normal, and gets there by swaps.
-use Rattle.std.proofs.Common.{◌≡◌, ◌≢◌, ◌⊎◌, ℕ, zero, suc, ◌+◌, ◌<◌, ◌≤◌, Bool, true, false, not, ◌&&◌, ◌||◌, ltb, eqb, leb, List, [], ◌∷◌, ◌++◌, All, length, map, get_or, take, drop, refl, sym, ap, subst, inl, inr, ◌∙◌, append_assoc, arith}
-use Rattle.std.specs.Prelude.{◌↔◌, IsBitSet, nat_lt, if◌then◌else◌, fold}
+use Rattle.std.proofs.Common.{◌≡◌, ◌≢◌, ℕ, suc, ◌+◌, ◌<◌, ◌≤◌, Bool, true, false, ◌&&◌, ltb, eqb, leb, List, [], ◌∷◌, ◌++◌, length, get_or, take, refl, sym, ap, subst, inl, inr, ◌∙◌, append_assoc, arith}
+use Rattle.std.specs.Prelude.{◌↔◌, IsBitSet, nat_lt, if◌then◌else◌}
 use Rattle.std.specs.List.{list_all, insert}
 use Rattle.std.proofs.lemmas.Bool.{cases_Bool, cases_lt, cases_eq, and_parts, ltb-true, lt-ltb, le-ltb, le-leb, eqb-true, eq-eqb, ne_eqb}
 use Rattle.std.proofs.lemmas.Bool.Decides.{nat_tests}
 use Rattle.std.proofs.lemmas.List.{append-nil, map-append, length-take-le, take_more}
 use Rattle.std.proofs.lemmas.List.Folds.{list_all-append}
-use Rattle.std.proofs.lemmas.List.Elements.{All-head, All-tail, All-nil, All-cons}
-use Rattle.std.proofs.lemmas.List.Sorted.{All-permutation}
+use Rattle.std.proofs.lemmas.List.Elements.{All-head, All-tail}
 use Rattle.plant_model.specs.declared.parts.Parts.{Parts}
 use Rattle.plant_model.specs.Parts.{op_count_of}
 use Rattle.plant_model.specs.Relations.{independent_of}
@@ -23,7 +22,7 @@ use Rattle.overlap_graph.proofs.SetLaws.{none_in_empty}
 use Rattle.overlap_graph.proofs.GraphLaws.{independent_sets}
 use Rattle.slot_words.specs.Swaps.{AreEquivalent}
 use Rattle.slot_words.specs.Swaps.AreEquivalent.{itself}
-use Rattle.slot_words.proofs.ChainLaws.{one_swap, joined, behind, ahead}
+use Rattle.slot_words.proofs.ChainLaws.{one_swap, joined, behind}
 use Rattle.normal_order.specs.NormalWords.{ops_of, AreKnown, IsNormalWord}
 use Rattle.normal_order.specs.inside.Seats.{comes_before, seat_of, seated, stands_behind}
 
@@ -85,7 +84,7 @@ normal_from_free parts read [] normal (none blocked) = subst (IsNormalWord parts
 normal_from_free parts read (t ∷ later) normal (more blocked s rest free others) =
     let masks = independence_of parts in
     let next : IsNormalWord parts (read ++ t ∷ []) =
-        subst (IsNormal masks) (sym (ops_push read t)) ((normal_grows masks (ops_of read) t.op).1 (normal, free)) in
+    subst (IsNormal masks) (sym (ops_push read t)) ((normal_grows masks (ops_of read) t.op).1 (normal, free)) in
     let set = sym (ap (blocked_after masks) (ops_push read t) ∙ blocked_grow masks (ops_of read) t.op) in
     subst (IsNormalWord parts) (append_assoc read (t ∷ []) later)
     (normal_from_free parts (read ++ t ∷ []) later next (subst (λ (b : ℕ). AreFree parts b later) set others))
@@ -140,19 +139,19 @@ seated_free parts blocked t word known each (more b s later free others) frees =
           let not_blocked : IsBitSet blocked t.op → ⊥ = λ set. (let wrong : true ≡ false = sym both.1 ∙ frees set in cc) in
           let first = next_blocked masks blocked t.op in
           let s_free : IsBitSet first s.op → ⊥ = λ set. (
-              let was = (set_next masks blocked t.op s.op).0 set in
-              elim was.1 [ inl earlier ↦ free earlier | inr less ↦ absurd (omega (arith, less, ltb-true t.op s.op both.0)) ]) in
+          let was = (set_next masks blocked t.op s.op).0 set in
+          elim was.1 [ inl earlier ↦ free earlier | inr less ↦ absurd (omega (arith, less, ltb-true t.op s.op both.0)) ]) in
           rw before (more blocked t (s ∷ later) not_blocked (more first s later s_free
           (still_free parts (next_blocked masks first s.op) (next_blocked masks blocked s.op) later (λ v set. after_both masks blocked t s v (ltb-true t.op s.op both.0) set) others)))
       | inr after ↦
           let next = next_blocked masks blocked s.op in
           let frees_next : FreesLater parts next t.op later = λ set. (
-              let was = (set_next masks blocked s.op t.op).0 set in
-              let apart = (independent_is parts t.op s.op known s_known).0 was.0 in
-              elim was.1 [
-                | inl earlier ↦ (let some = frees earlier in rw apart at some)
-                | inr less ↦ (let some = after in let here = rw (lt-ltb t.op s.op less, apart) at some in here)
-              ]) in
+          let was = (set_next masks blocked s.op t.op).0 set in
+          let apart = (independent_is parts t.op s.op known s_known).0 was.0 in
+          elim was.1 [
+            | inl earlier ↦ (let some = frees earlier in rw apart at some)
+            | inr less ↦ (let some = after in let here = rw (lt-ltb t.op s.op less, apart) at some in here)
+          ]) in
           rw after (more blocked s (seated parts t later) free (seated_free parts next t later known later_known others frees_next))
     ]
   where
@@ -160,10 +159,13 @@ seated_free parts blocked t word known each (more b s later free others) frees =
         IsBitSet (next_blocked masks blocked s.op) v
     after_both masks blocked t s v less set =
         let second = (set_next masks (next_blocked masks blocked t.op) s.op v).0 set in
-        (set_next masks blocked s.op v).1 (second.0, elim second.1 [
-          | inl first ↦ elim ((set_next masks blocked t.op v).0 first).1 [ inl was ↦ inl was | inr below ↦ inr (omega arith) ]
-          | inr below ↦ inr below
-        ])
+        (set_next masks blocked s.op v).1 (
+          second.0,
+          elim second.1 [
+            | inl first ↦ elim ((set_next masks blocked t.op v).0 first).1 [ inl was ↦ inl was | inr below ↦ inr (omega arith) ]
+            | inr below ↦ inr below
+          ],
+        )
 
 pub seated_normal : (parts : Parts) (t : Timed) (word : List Timed) → t.op < op_count_of parts → AreKnown parts word → IsNormalWord parts word →
     IsNormalWord parts (seated parts t word)
@@ -227,7 +229,7 @@ seat_push parts v (f ∷ word) s =
                   | inr stays ↦
                       let here = rw stays at later in
                       let stays_too : (eqb (1 + seat_of parts v word) (length (f ∷ word)) && leb s.op v) ≡ false =
-                          one_further (seat_of parts v word) (length word) (leb s.op v) stays in
+                      one_further (seat_of parts v word) (length word) (leb s.op v) stays in
                       rw (same, after, apart, stays_too) (omega arith)
                 ]
           ]
@@ -251,7 +253,7 @@ seat_step parts v steps k d seat next b within is asked step =
     let long : length read ≡ k = length-take-le k steps (omega arith) in
     let s = get_or steps k d in
     let test : stands_behind parts v s.op (eqb seat k) ≡ stands_behind parts v s.op (eqb (seat_of parts v read) (length read)) =
-        ap (λ (n : ℕ). stands_behind parts v s.op (eqb n k)) is ∙ ap (λ (n : ℕ). stands_behind parts v s.op (eqb (seat_of parts v read) n)) (sym long) in
+    ap (λ (n : ℕ). stands_behind parts v s.op (eqb n k)) is ∙ ap (λ (n : ℕ). stands_behind parts v s.op (eqb (seat_of parts v read) n)) (sym long) in
     step ∙ ap (λ (c : Bool). if c then k + 1 else seat) (asked ∙ test)
     ∙ ap (λ (n : ℕ). if stands_behind parts v s.op (eqb (seat_of parts v read) (length read)) then k + 1 else n) is
     ∙ ap (λ (n : ℕ). if stands_behind parts v s.op (eqb (seat_of parts v read) (length read)) then n + 1 else seat_of parts v read) (sym long)

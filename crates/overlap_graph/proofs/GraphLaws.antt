@@ -1,18 +1,17 @@
 -- Laws of the masks of independence and of cliques.
-use Rattle.std.proofs.Common.{◌≡◌, ◌⊎◌, ℕ, zero, suc, ◌+◌, ◌-◌, ◌<◌, ◌≤◌, Bool, true, false, not, ◌&&◌, ◌||◌, List, [], ◌∷◌, ◌++◌, length, map, get_or, All, refl, sym, ap, subst, inl, inr, ◌∙◌, append_assoc, arith}
+use Rattle.std.proofs.Common.{◌≡◌, ◌⊎◌, ℕ, zero, suc, ◌+◌, ◌-◌, ◌<◌, ◌≤◌, Bool, true, not, ◌&&◌, List, [], ◌∷◌, ◌++◌, length, get_or, All, refl, sym, ap, subst, inl, inr, ◌∙◌, arith}
 use Rattle.std.specs.Prelude.{◌↔◌, IsBitSet, fold, if◌then◌else◌}
 use Rattle.std.specs.List.{list_any, range_with_len}
 use Rattle.std.proofs.lemmas.Bool.{cases_Bool, cases_lt, cases_eq, and_parts}
 use Rattle.std.proofs.lemmas.List.{length_push, get_or_append_left, get_or_push}
 use Rattle.std.proofs.lemmas.List.FromFn.{length-map-range_with_len, get_or-map-range_with_len}
-use Rattle.std.proofs.lemmas.List.Folds.{list_any-append}
 use Rattle.std.proofs.lemmas.List.Sums.{fold-append}
 use Rattle.std.proofs.lemmas.List.Elements.{All-nil, All-push}
 use Rattle.plant_model.specs.declared.parts.Parts.{Parts}
 use Rattle.plant_model.specs.Parts.{op_count_of}
 use Rattle.plant_model.specs.Relations.{refused_at_once_of, independent_of}
 use Rattle.plant_model.proofs.RelationLaws.{refused_at_once_of-reflexive, refused_at_once_of-symmetric}
-use Rattle.overlap_graph.specs.Sets.{set_of, with_member, is_within}
+use Rattle.overlap_graph.specs.Sets.{with_member, is_within}
 use Rattle.overlap_graph.specs.Independence.{independent_mask_of, independence_of, IsIndependentSet, AreIndependentSets}
 use Rattle.overlap_graph.specs.Cliques.{refused_mask_of, refused_masks_of, joined_by, clique_from, pair_of, with_pair, with_pairs, cliques_of, IsClique, EachIsClique, HasBoth, EachPairIsCovered}
 use Rattle.overlap_graph.proofs.SetLaws.{with_member-has, none_in_empty, set_of-has, member_within}
@@ -106,14 +105,15 @@ joined_is_clique : (parts : Parts) (clique u : ℕ) → u < op_count_of parts �
 joined_is_clique parts clique u known is =
     elim (cases_Bool (is_within clique (refused_mask_of parts u))) [
       | inl joins ↦ rw joins (record {
-          known = λ k has. elim ((with_member-has clique u k).0 has) [ inl before ↦ is.known k before | inr same ↦ omega (arith, same) ];
-          refused = λ k l has_k has_l. joined_refused parts clique u is joins k l ((with_member-has clique u k).0 has_k) ((with_member-has clique u l).0 has_l);
-        })
+        known = λ k has. elim ((with_member-has clique u k).0 has) [ inl before ↦ is.known k before | inr same ↦ omega (arith, same) ];
+        refused = λ k l has_k has_l. joined_refused parts clique u is joins k l ((with_member-has clique u k).0 has_k) ((with_member-has clique u l).0 has_l);
+      })
       | inr stays ↦ rw stays is
     ]
   where
     to_new : (parts : Parts) (clique u : ℕ) → is_within clique (refused_mask_of parts u) ≡ true → (k : ℕ) → IsBitSet clique k → refused_at_once_of parts u k ≡ true
     to_new parts clique u joins k has = ((refused_mask-has parts u k).0 (member_within clique (refused_mask_of parts u) k joins has)).1
+
     joined_refused : (parts : Parts) (clique u : ℕ) → IsClique parts clique → is_within clique (refused_mask_of parts u) ≡ true → (k l : ℕ) →
         (IsBitSet clique k ⊎ (k ≡ u)) → (IsBitSet clique l ⊎ (l ≡ u)) → refused_at_once_of parts k l ≡ true
     joined_refused parts clique u is joins k l (inl has_k) (inl has_l) = is.refused k l has_k has_l
@@ -187,13 +187,13 @@ covered_found v w [] found = cc
 covered_found v w (clique ∷ cliques) found =
     elim (cases_Bool (is_within (pair_of v w) clique)) [
       | inl here ↦ (
-          0,
-          omega arith,
-          record {
-            first = member_within (pair_of v w) clique v here ((pair_of-has v w v).1 (inl refl));
-            second = member_within (pair_of v w) clique w here ((pair_of-has v w w).1 (inr refl));
-          },
-        )
+        0,
+        omega arith,
+        record {
+          first = member_within (pair_of v w) clique v here ((pair_of-has v w v).1 (inl refl));
+          second = member_within (pair_of v w) clique w here ((pair_of-has v w w).1 (inr refl));
+        },
+      )
       | inr not_here ↦
           let later = rw not_here at found in
           let (i, within, has) = covered_found v w cliques later in (suc i, omega arith, has)
@@ -211,9 +211,9 @@ with_pair-covers parts v w cliques refused =
     elim (cases_Bool (list_any (is_within (pair_of v w)) cliques)) [
       | inl found ↦ rw (refused, found) (covered_found v w cliques found)
       | inr missing ↦ rw (refused, missing) (covered_last v w (clique_from parts (pair_of v w)) cliques (record {
-          first = clique_from-has parts (pair_of v w) v ((pair_of-has v w v).1 (inl refl));
-          second = clique_from-has parts (pair_of v w) w ((pair_of-has v w w).1 (inr refl));
-        }))
+        first = clique_from-has parts (pair_of v w) v ((pair_of-has v w v).1 (inl refl));
+        second = clique_from-has parts (pair_of v w) w ((pair_of-has v w w).1 (inr refl));
+      }))
     ]
 
 -- a step of a loop gives what all later ones keep

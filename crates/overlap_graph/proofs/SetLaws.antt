@@ -1,8 +1,7 @@
 -- Laws of sets of operations.
-use Rattle.std.proofs.Common.{◌≡◌, ◌≢◌, ◌⊎◌, ℕ, zero, suc, ◌+◌, ◌^◌, ◌<◌, ◌≤◌, min, max, Bool, true, false, List, [], ◌∷◌, ◌++◌, length, map, get_or, refl, sym, ap, subst, inl, inr, ◌∙◌, arith, eqb}
-use Rattle.std.specs.Prelude.{◌↔◌, IsBitSet, bit_and, bit_or, fold, if◌then◌else◌}
+use Rattle.std.proofs.Common.{◌≡◌, ◌⊎◌, ℕ, zero, suc, ◌+◌, ◌^◌, ◌<◌, Bool, true, false, sym, ap, subst, inl, inr, ◌∙◌, arith}
+use Rattle.std.specs.Prelude.{◌↔◌, IsBitSet, bit_and, if◌then◌else◌}
 use Rattle.std.specs.Int.{bit_at}
-use Rattle.std.specs.List.{range_with_len}
 use Rattle.std.proofs.lemmas.Bool.{cases_Bool, cases_lt, cases_eq, eqb-true, eq-eqb}
 use Rattle.std.proofs.lemmas.Nat.Bits.{bit_at-lt, bit_at-zero, bit_at_and, bit_at-pow_same, bit_at-pow_other, same_from_bits}
 use Rattle.slot_automaton.proofs.BitLemmas.{set_or, set_and, set_from_one, one_from_set}
@@ -51,30 +50,30 @@ set_of-has zero test k = (λ set. absurd (none_in_empty k set), λ both. absurd 
 set_of-has (suc n) test k =
     elim (cases_Bool (test n)) [
       | inl passes ↦ rw passes (
-          λ set.
-              elim ((with_member-has (set_of n test) n k).0 set) [
-                | inl earlier ↦ (let both = (set_of-has n test k).0 earlier in (omega (arith, both.0), both.1))
-                | inr is ↦ (omega (arith, is), ap test is ∙ passes)
-              ],
-          λ both.
-              (with_member-has (set_of n test) n k).1 (
-                elim (cases_lt k n) [
-                  | inl below ↦ inl ((set_of-has n test k).1 (below, both.1))
-                  | inr from ↦ inr (omega (arith, both.0))
-                ]
-              ),
-        )
+        λ set.
+            elim ((with_member-has (set_of n test) n k).0 set) [
+              | inl earlier ↦ (let both = (set_of-has n test k).0 earlier in (omega (arith, both.0), both.1))
+              | inr is ↦ (omega (arith, is), ap test is ∙ passes)
+            ],
+        λ both.
+            (with_member-has (set_of n test) n k).1 (
+            elim (cases_lt k n) [
+              | inl below ↦ inl ((set_of-has n test k).1 (below, both.1))
+              | inr from ↦ inr (omega (arith, both.0))
+            ]
+            ),
+      )
       | inr fails ↦ rw fails (
-          λ set. (let both = (set_of-has n test k).0 set in (omega (arith, both.0), both.1)),
-          λ both.
-              elim (cases_lt k n) [
-                | inl below ↦ (set_of-has n test k).1 (below, both.1)
-                | inr from ↦
-                    let is : k ≡ n = omega (arith, both.0) in
-                    let wrong : true ≡ false = sym both.1 ∙ ap test is ∙ fails in
-                    cc
-              ],
-        )
+        λ set. (let both = (set_of-has n test k).0 set in (omega (arith, both.0), both.1)),
+        λ both.
+            elim (cases_lt k n) [
+              | inl below ↦ (set_of-has n test k).1 (below, both.1)
+              | inr from ↦
+                  let is : k ≡ n = omega (arith, both.0) in
+                  let wrong : true ≡ false = sym both.1 ∙ ap test is ∙ fails in
+                  cc
+            ],
+      )
     ]
 
 -- ---- sets within sets

@@ -32,12 +32,7 @@ pub fn cliques(alloc: Global, plant: &Plant) -> Result<Masks, AllocError>
 }
 
 /// Gives each pair of the operation and one from it on a clique, where it needs one and has none.
-fn add_pairs(
-    plant: &Plant,
-    refused: &[u64],
-    cliques: &mut Masks,
-    v: u8,
-) -> Result<(), AllocError>
+fn add_pairs(plant: &Plant, refused: &[u64], cliques: &mut Masks, v: u8) -> Result<(), AllocError>
     requires known { v < op_count_of plant.now }
     requires table { refused.now ≡ refused_masks_of plant.now }
     ensures { OnOk result (cliques.new ≡ with_pairs plant.now cliques.old v) }

@@ -10,12 +10,12 @@
 #![tactic(auto)]
 
 mod cover;
-mod masks;
 mod laws;
+mod masks;
 mod sets;
 #[cfg(test)]
 mod tests;
 
 pub use cover::{Masks, cliques};
-pub use masks::{independence, independent_mask};
 pub use laws::clique_laws;
+pub use masks::{independence, independent_mask};

@@ -1,8 +1,8 @@
 //! Sample plants made of parts, for the tests of the crates above.
 //!
-//! There are two kinds: [`OneCharge`], one charging tank, one unit, and the charge between them, where a test takes
-//! [`one_charge`] as it is or names what is to be otherwise; and [`unloading`], vessels that are unloaded, each into a
-//! tank of its own.
+//! There are three kinds: [`OneCharge`], one charging tank, one unit, and the charge between them, where a test takes
+//! [`one_charge`] as it is or names what is to be otherwise; [`two_inlets`], two storage tanks that fill one charging
+//! tank; and [`unloading`], vessels that are unloaded, each into a tank of its own.
 //!
 //! To the crates above this crate promises nothing: no call has a clause, so that the proofs of tests do not
 //! read the numbers, and no crate calls it outside its tests.
@@ -47,12 +47,13 @@ fn name(alloc: Global, text: &str) -> Result<Name, AllocError> {
     Copies::new(alloc, text.as_bytes())
 }
 
-fn tank(alloc: Global) -> Result<TankPart, AllocError> {
+/// A tank of at most 10 units that holds so much at first; a demand of any volume meets what is charged from it.
+fn tank(alloc: Global, name_text: &str, amount: i64) -> Result<TankPart, AllocError> {
     Ok(TankPart {
-        name: name(alloc, "C1")?,
+        name: name(alloc, name_text)?,
         min: 0,
         max: 10,
-        amounts: Copies::new(alloc, &[4])?,
+        amounts: Copies::new(alloc, &[amount])?,
         demand: Pair {
             lo: 0,
             hi: MOST_VOLUME as i64,
@@ -69,7 +70,7 @@ impl OneCharge {
             crudes: Items::from_vec(vec![in alloc; self.crude(alloc)?]?),
             vessels: Items::new(alloc),
             storage: Items::new(alloc),
-            charging: Items::from_vec(vec![in alloc; tank(alloc)?]?),
+            charging: Items::from_vec(vec![in alloc; tank(alloc, "C1", 4)?]?),
             units: Items::from_vec(vec![in alloc; self.unit(alloc)?]?),
             operations: Items::from_vec(vec![in alloc; self.charge(alloc)?]?),
         })
@@ -102,6 +103,44 @@ impl OneCharge {
             limits: Items::new(alloc),
         })
     }
+}
+
+/// The parts of a plant of 4 minutes and one crude that earns 1: `T1` and `T2` fill tank `C1`, which holds 2, from `S1`
+/// and `S2`, which hold 5 each, and `G` charges the unit from it; each moves 1 to 10 volume units, ten in a minute at most.
+pub fn two_inlets(alloc: Global) -> Result<Parts, AllocError> {
+    let sample = OneCharge {
+        margin: 1,
+        ..one_charge()
+    };
+    let storage = vec![in alloc; tank(alloc, "S1", 5)?, tank(alloc, "S2", 5)?]?;
+    let operations = vec![in alloc;
+        fast(alloc, "T1", "S1", "C1")?,
+        fast(alloc, "T2", "S2", "C1")?,
+        fast(alloc, "G", "C1", "U")?,
+    ]?;
+    Ok(Parts {
+        horizon: 4,
+        properties: Items::new(alloc),
+        crudes: Items::from_vec(vec![in alloc; sample.crude(alloc)?]?),
+        vessels: Items::new(alloc),
+        storage: Items::from_vec(storage),
+        charging: Items::from_vec(vec![in alloc; tank(alloc, "C1", 2)?]?),
+        units: Items::from_vec(vec![in alloc; sample.unit(alloc)?]?),
+        operations: Items::from_vec(operations),
+    })
+}
+
+/// An operation of 1 to 10 volume units, ten in a minute at most, at any of 4 minutes.
+fn fast(alloc: Global, name_text: &str, from: &str, to: &str) -> Result<OperationPart, AllocError> {
+    Ok(OperationPart {
+        name: name(alloc, name_text)?,
+        from: name(alloc, from)?,
+        to: name(alloc, to)?,
+        rate: Pair { lo: 0, hi: 14_400 },
+        volume: Pair { lo: 1, hi: 10 },
+        window: Pair { lo: 0, hi: 4 },
+        limits: Items::new(alloc),
+    })
 }
 
 /// A vessel of a plant whose vessels are unloaded.

@@ -1,18 +1,17 @@
 -- What comes after two words that differ in the order of independent neighbours alone finds the same after either.
-use Rattle.std.proofs.Common.{◌≡◌, ℕ, ◌+◌, ◌<◌, ◌≤◌, max, ℤ, Bool, true, false, not, ◌&&◌, ◌||◌, if◌then◌else◌, List, [], ◌∷◌, ◌++◌, length, fold, refl, sym, ap, subst, ◌∙◌, append_assoc, arith}
+use Rattle.std.proofs.Common.{◌≡◌, ℕ, ◌+◌, ℤ, Bool, true, false, not, ◌&&◌, ◌||◌, List, [], ◌∷◌, ◌++◌, length, fold, refl, sym, ap, ◌∙◌, append_assoc}
 use Rattle.std.specs.Prelude.{nat_le, ◌+ℤ◌}
 use Rattle.std.specs.List.{list_all}
 use Rattle.std.proofs.lemmas.List.{length-append}
 use Rattle.std.proofs.lemmas.List.Folds.{list_all-append}
 use Rattle.std.proofs.lemmas.List.Sums.{fold-append}
-use Rattle.item_lists.specs.Faults.{unless}
 use Rattle.plant_model.specs.declared.parts.Parts.{Parts}
 use Rattle.plant_model.specs.Relations.{refused_at_once_of, ordered_of}
 use Rattle.replay_core.specs.declared.timed.Timed.{Timed}
 use Rattle.replay_core.specs.declared.order.Order.TheVariants.{BySlot}
-use Rattle.replay_core.specs.State.{initial_state, drawn_of, after_step, state_after}
-use Rattle.replay_core.specs.Rules.{starts_after_ordered, waits_for_others, unloads_later_vessel, keeps_vessel_order, leaves_minimum, keeps_maximum, meets_limits}
-use Rattle.replay_core.specs.Legal.{broken, own_faults, order_faults, place_faults, op_faults, step_faults_from}
+use Rattle.replay_core.specs.State.{initial_state, after_step, state_after}
+use Rattle.replay_core.specs.Rules.{starts_after_ordered, waits_for_others, unloads_later_vessel, keeps_vessel_order}
+use Rattle.replay_core.specs.Legal.{order_faults, place_faults, op_faults, step_faults_from}
 use Rattle.replay_core.specs.Margin.{earned_at, earned_from}
 use Rattle.replay_core.proofs.StateLaws.{state_after_push}
 

@@ -1,5 +1,5 @@
 -- Words that are equivalent: chains of swaps joined, turned round and behind other operations, and what they keep.
-use Rattle.std.proofs.Common.{◌≡◌, true, List, [], ◌∷◌, ◌++◌, refl, sym, ap, subst, ◌∙◌, append_assoc}
+use Rattle.std.proofs.Common.{◌≡◌, true, List, ◌∷◌, ◌++◌, refl, sym, ap, subst, ◌∙◌, append_assoc}
 use Rattle.std.specs.List.Sorted.{IsPermutation}
 use Rattle.std.proofs.lemmas.List.Sorted.{IsPermutation-refl, IsPermutation-trans}
 use Rattle.plant_model.specs.declared.parts.Parts.{Parts}
@@ -7,7 +7,6 @@ use Rattle.plant_model.specs.Relations.{independent_of}
 use Rattle.plant_model.specs.Sound.{SoundPlant}
 use Rattle.plant_model.proofs.RelationLaws.{independent_of-symmetric}
 use Rattle.replay_core.specs.declared.timed.Timed.{Timed}
-use Rattle.replay_core.specs.declared.order.Order.TheVariants.{BySlot}
 use Rattle.slot_words.specs.Swaps.{IsSwap, AreEquivalent, MeansTheSame}
 use Rattle.slot_words.specs.Swaps.AreEquivalent.{itself, swapped}
 use Rattle.slot_words.proofs.SwapLaws.{swap_keeps, swapped-entries}
@@ -34,16 +33,15 @@ turned_round parts word other (swapped first next last swap rest) =
     joined parts last next first (turned_round parts next last rest) (swapped next first first (swap_back parts first next swap) (itself first))
 
 swap_behind : (parts : Parts) (held word other : List Timed) → IsSwap parts word other → IsSwap parts (held ++ word) (held ++ other)
-swap_behind parts held word other (front, back, s, t, is, other_is, independent) =
-    (
-      held ++ front,
-      back,
-      s,
-      t,
-      ap (λ (later : List Timed). held ++ later) is ∙ sym (append_assoc held front (s ∷ t ∷ back)),
-      ap (λ (later : List Timed). held ++ later) other_is ∙ sym (append_assoc held front (t ∷ s ∷ back)),
-      independent,
-    )
+swap_behind parts held word other (front, back, s, t, is, other_is, independent) = (
+  held ++ front,
+  back,
+  s,
+  t,
+  ap (λ (later : List Timed). held ++ later) is ∙ sym (append_assoc held front (s ∷ t ∷ back)),
+  ap (λ (later : List Timed). held ++ later) other_is ∙ sym (append_assoc held front (t ∷ s ∷ back)),
+  independent,
+)
 
 pub behind : (parts : Parts) (held word other : List Timed) → AreEquivalent parts word other → AreEquivalent parts (held ++ word) (held ++ other)
 behind parts held word other (itself first) = itself (held ++ first)
@@ -85,16 +83,15 @@ same_entries parts word other (swapped first next last swap rest) =
     IsPermutation-trans first next last (swap_entries parts first next swap) (same_entries parts next last rest)
 
 swap_ahead : (parts : Parts) (word other back : List Timed) → IsSwap parts word other → IsSwap parts (word ++ back) (other ++ back)
-swap_ahead parts word other back (front, later, s, t, is, other_is, independent) =
-    (
-      front,
-      later ++ back,
-      s,
-      t,
-      ap (λ (first : List Timed). first ++ back) is ∙ append_assoc front (s ∷ t ∷ later) back,
-      ap (λ (first : List Timed). first ++ back) other_is ∙ append_assoc front (t ∷ s ∷ later) back,
-      independent,
-    )
+swap_ahead parts word other back (front, later, s, t, is, other_is, independent) = (
+  front,
+  later ++ back,
+  s,
+  t,
+  ap (λ (first : List Timed). first ++ back) is ∙ append_assoc front (s ∷ t ∷ later) back,
+  ap (λ (first : List Timed). first ++ back) other_is ∙ append_assoc front (t ∷ s ∷ later) back,
+  independent,
+)
 
 pub ahead : (parts : Parts) (word other back : List Timed) → AreEquivalent parts word other → AreEquivalent parts (word ++ back) (other ++ back)
 ahead parts word other back (itself first) = itself (first ++ back)

@@ -1,5 +1,5 @@
 -- Two operations that are apart move the same, whichever comes first.
-use Rattle.std.proofs.Common.{◌≡◌, ◌≢◌, ℕ, ◌+◌, ◌<◌, ◌≤◌, List, [], ◌∷◌, length, get_or, sum, refl, sym, ap, subst, inl, inr, ◌∙◌, arith}
+use Rattle.std.proofs.Common.{◌≡◌, ◌≢◌, ℕ, ◌+◌, ◌<◌, List, [], ◌∷◌, length, refl, sym, ap, subst, inl, inr, ◌∙◌, arith}
 use Rattle.std.proofs.lemmas.List.{ext_get_or}
 use Rattle.std.proofs.lemmas.Bool.{cases_eq}
 use Rattle.crude_amounts.specs.Amounts.{mix_of, rest_of}
@@ -8,7 +8,7 @@ use Rattle.plant_model.specs.declared.parts.Parts.{Parts}
 use Rattle.plant_model.specs.Parts.{op_of}
 use Rattle.plant_model.specs.Relations.{AreApart}
 use Rattle.replay_core.specs.declared.timed.Timed.{Timed}
-use Rattle.replay_core.specs.State.{held_of, drawn_of, moved, after_step}
+use Rattle.replay_core.specs.State.{held_of, drawn_of, after_step}
 use Rattle.replay_core.proofs.StateLaws.{length-moved, moved-source, moved-target, moved-other}
 
 -- the places of the operation are there, and two
@@ -125,6 +125,7 @@ held-after parts state s t has_s has_t apart p =
         held_of (after_step parts state t) p ≡ mix_of (held_of state p) (drawn_of parts state t)
     filled parts state t p has is =
         subst (λ (q : ℕ). held_of (after_step parts state t) q ≡ mix_of (held_of state q) (drawn_of parts state t)) (sym is) (after-target parts state t has)
+
     both_filled : (parts : Parts) (state : List (List ℕ)) (s t : Timed) → HasPlaces parts state s → HasPlaces parts state t → KeepApart parts s t → (p : ℕ) →
         p ≡ (op_of parts s.op).to → p ≡ (op_of parts t.op).to →
         held_of (after_step parts (after_step parts state s) t) p ≡ held_of (after_step parts (after_step parts state t) s) p
@@ -138,6 +139,7 @@ held-after parts state s t has_s has_t apart p =
         let drawn_t = ap (λ drawn. mix_of (mix_of (held_of state p) (drawn_of parts state s)) drawn) (draw-kept parts state s t apart) in
         let drawn_s = ap (λ drawn. mix_of (mix_of (held_of state p) (drawn_of parts state t)) drawn) (draw-kept parts state t s (other_way parts s t apart)) in
         first ∙ held_s ∙ drawn_t ∙ mixed_either_way (held_of state p) (drawn_of parts state s) (drawn_of parts state t) ∙ sym (second ∙ held_t ∙ drawn_s)
+
     one_filled : (parts : Parts) (state : List (List ℕ)) (s t : Timed) → HasPlaces parts state s → KeepApart parts s t → (p : ℕ) →
         p ≡ (op_of parts s.op).to → p ≢ (op_of parts t.op).from → p ≢ (op_of parts t.op).to →
         held_of (after_step parts (after_step parts state s) t) p ≡ held_of (after_step parts (after_step parts state t) s) p

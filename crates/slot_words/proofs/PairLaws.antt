@@ -1,25 +1,22 @@
 -- Two operations of which neither has to come first: where both may run one after the other, they may also run the other
 -- way round.
-use Rattle.std.proofs.Common.{◌≡◌, ◌≢◌, ◌⊎◌, ℕ, ◌+◌, ◌<◌, ◌≤◌, Bool, true, false, not, ◌&&◌, ◌||◌, eqb, List, [], ◌∷◌, ◌++◌, length, sum, refl, sym, ap, subst, inl, inr, ◌∙◌, arith}
+use Rattle.std.proofs.Common.{◌≡◌, ◌≢◌, ◌⊎◌, ℕ, ◌+◌, ◌≤◌, Bool, true, false, not, ◌&&◌, ◌||◌, eqb, List, [], ◌∷◌, ◌++◌, length, sum, refl, sym, ap, subst, inl, inr, ◌∙◌, arith}
 use Rattle.std.specs.Prelude.{nat_le}
 use Rattle.std.specs.List.{list_all, range_with_len}
 use Rattle.std.proofs.lemmas.List.Folds.{list_all-append}
-use Rattle.std.proofs.lemmas.Bool.{cases_eq, cases_Bool, and_parts, and_from, or_parts, le-leb}
-use Rattle.std.proofs.lemmas.Bool.Decides.{nat_tests}
-use Rattle.crude_amounts.specs.Amounts.{mix_of}
+use Rattle.std.proofs.lemmas.Bool.{cases_eq, and_parts, and_from, or_parts, le-leb}
 use Rattle.crude_amounts.proofs.MixLaws.{sum-mix_of}
 use Rattle.plant_model.specs.declared.parts.Parts.{Parts}
 use Rattle.plant_model.specs.Parts.{property_count_of, op_of, place_of}
 use Rattle.plant_model.specs.Relations.{is_charge, share_berth, one_feeds_other, both_charge_from_one_tank, both_charge_one_unit, refused_at_once_of, ordered_of, independent_of}
 use Rattle.plant_model.specs.Sound.{SoundPlant}
-use Rattle.plant_model.proofs.RelationLaws.{independent_of-symmetric, ordered_from_refused, apart_from_independent}
+use Rattle.plant_model.proofs.RelationLaws.{independent_of-symmetric, apart_from_independent}
 use Rattle.replay_core.specs.declared.timed.Timed.{Timed}
 use Rattle.replay_core.specs.declared.order.Order.TheVariants.{BySlot}
 use Rattle.replay_core.specs.State.{held_of, drawn_of, after_step, state_after}
 use Rattle.replay_core.specs.Rules.{is_unit, starts_after_ordered, waits_for_others, unloads_later_vessel, keeps_vessel_order, leaves_minimum, keeps_maximum, meets_limit, meets_limits}
 use Rattle.replay_core.specs.inside.Levels.{HoldsWithin}
 use Rattle.replay_core.specs.Legal.{own_faults, order_faults, place_faults, op_faults, broken}
-use Rattle.item_lists.specs.Faults.{unless}
 use Rattle.item_lists.proofs.FaultLaws.{holds_of_nil}
 use Rattle.replay_core.proofs.RuleLaws.{KeepsOwnRules, KeepsPlaceRules, RunsSoundly, own_rules_kept, place_rules_kept, rules_kept, runs_soundly, maximum-kept}
 use Rattle.replay_core.proofs.StateLaws.{places_apart, drawn-crudes, drawn-volume, state_after_push}

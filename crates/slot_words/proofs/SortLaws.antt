@@ -1,9 +1,9 @@
 -- A word that breaks no rule by slots is a plan once it is sorted by starts.
-use Rattle.std.proofs.Common.{◌≡◌, ◌≢◌, ◌⊎◌, ℕ, zero, suc, ◌+◌, ◌<◌, ◌≤◌, Bool, true, false, not, ◌&&◌, ◌||◌, eqb, leb, cond, List, [], ◌∷◌, ◌++◌, length, get_or, All, refl, sym, ap, subst, inl, inr, ◌∙◌, append_assoc, arith}
+use Rattle.std.proofs.Common.{◌≡◌, ℕ, suc, ◌+◌, ◌<◌, ◌≤◌, Bool, true, false, not, ◌&&◌, ◌||◌, leb, cond, List, [], ◌∷◌, ◌++◌, length, All, refl, sym, ap, subst, inl, inr, ◌∙◌, arith}
 use Rattle.std.specs.Prelude.{nat_le, if◌then◌else◌}
 use Rattle.std.specs.List.{list_all, filter}
-use Rattle.std.specs.List.Sorted.{IsPermutation, IsNonDecreasingBy}
-use Rattle.std.proofs.lemmas.Bool.{cases_eq, cases_Bool, cases_lt, and_parts, leb-true, le-leb, eq-eqb, ne_eqb}
+use Rattle.std.specs.List.Sorted.{IsNonDecreasingBy}
+use Rattle.std.proofs.lemmas.Bool.{cases_Bool, cases_lt, and_parts, leb-true, eq-eqb, ne_eqb}
 use Rattle.std.proofs.lemmas.Bool.Decides.{nat_tests}
 use Rattle.std.proofs.lemmas.List.Folds.{list_all-append}
 use Rattle.std.proofs.lemmas.List.Elements.{All-head, All-tail, All-nil, All-cons}
@@ -18,10 +18,10 @@ use Rattle.replay_core.specs.Rules.{last_start, starts_after_ordered}
 use Rattle.replay_core.specs.Legal.{op_faults, step_faults_from, step_faults, IsLegalIn, IsLegal, CanRun}
 use Rattle.replay_core.specs.Margin.{margin_of}
 use Rattle.replay_core.proofs.StepLaws.{CanRun-legal, first_broken-accepted}
-use Rattle.slot_words.specs.Swaps.{AreEquivalent, MeansTheSame}
+use Rattle.slot_words.specs.Swaps.{AreEquivalent}
 use Rattle.slot_words.specs.Swaps.AreEquivalent.{itself}
 use Rattle.slot_words.specs.ByStart.{starts_at, IsByStart}
-use Rattle.slot_words.proofs.PairLaws.{may_run, MayRun}
+use Rattle.slot_words.proofs.PairLaws.{may_run}
 use Rattle.slot_words.proofs.ChainLaws.{one_swap, joined, behind, equivalent_mean_the_same, same_entries}
 use Rattle.slot_words.proofs.StartLaws.{start-faults, last_start_push}
 
@@ -217,16 +217,17 @@ one_way (s ∷ rest) (t ∷ later) first second (rises a x xs begins_word up_wor
     let later_too = no_later t s later rest up_other (sym (same s.start)) in
     let start : s.start ≡ t.start = omega arith in
     let heads : s ∷ filter (starts_at s.start) rest ≡ t ∷ filter (starts_at s.start) later =
-        sym (filter-first s rest) ∙ same s.start
-        ∙ subst (λ (minute : ℕ). filter (starts_at minute) (t ∷ later) ≡ t ∷ filter (starts_at minute) later) (sym start) (filter-first t later) in
+    sym (filter-first s rest) ∙ same s.start
+    ∙ subst (λ (minute : ℕ). filter (starts_at minute) (t ∷ later) ≡ t ∷ filter (starts_at minute) later) (sym start) (filter-first t later) in
     let first_same : s ≡ t = heads_same heads in
     let rest_same = one_way rest later s.start t.start up_word up_other (λ minute. strip (starts_at minute) t rest later (subst (λ (r : Timed). filter (starts_at minute) (r ∷ rest)
-        ≡ filter (starts_at minute) (t ∷ later)) first_same (same minute))) in
+    ≡ filter (starts_at minute) (t ∷ later)) first_same (same minute))) in
     ap (λ (r : Timed). r ∷ rest) first_same ∙ ap (λ (xs : List Timed). t ∷ xs) rest_same
   where
     head : Timed → List Timed → Timed
     head d [] = d
     head d (x ∷ xs) = x
+
     heads_same : {s t : Timed} {xs ys : List Timed} → s ∷ xs ≡ t ∷ ys → s ≡ t
     heads_same {s} {t} same = ap (head s) same
 
@@ -260,6 +261,6 @@ sorted_word_is_plan parts word sorted sound is legal =
     let means = equivalent_mean_the_same parts word (sorted_of word) sound (sorted-chain parts word (keeps_slots parts word runs)) in
     let by_start = runs_by_start parts (sorted_of word) (sorted-rises word) (means.can_run runs) in
     let plan : IsLegal parts (sorted_of word) =
-        first_broken-accepted parts ByStart (sorted_of word) by_start
-        ∙ sym (first_broken-accepted parts BySlot (sorted_of word) (means.can_run runs)) ∙ means.legal legal in
+    first_broken-accepted parts ByStart (sorted_of word) by_start
+    ∙ sym (first_broken-accepted parts BySlot (sorted_of word) (means.can_run runs)) ∙ means.legal legal in
     subst (λ (plan : List Timed). IsLegal parts plan × (margin_of parts plan ≡ margin_of parts word)) (sym (is_sorted word sorted is)) (plan, means.margin runs)

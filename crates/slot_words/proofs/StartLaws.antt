@@ -1,29 +1,19 @@
 -- A word that keeps the order of slots, once it is sorted by starts, is a plan.
-use Rattle.std.proofs.Common.{◌≡◌, ◌≢◌, ◌⊎◌, ℕ, zero, suc, ◌+◌, ◌<◌, ◌≤◌, Bool, true, false, not, ◌&&◌, ◌||◌, eqb, leb, List, [], ◌∷◌, ◌++◌, length, get_or, All, refl, sym, ap, subst, inl, inr, ◌∙◌, append_assoc, arith}
-use Rattle.std.specs.Prelude.{nat_le, if◌then◌else◌}
-use Rattle.std.specs.List.{list_all, fold, filter}
-use Rattle.std.specs.List.Sorted.{IsPermutation, IsNonDecreasingBy}
-use Rattle.std.proofs.lemmas.Bool.{cases_eq, cases_Bool, cases_lt, and_parts, and_from, leb-true, le-leb, eq-eqb, ne_eqb}
-use Rattle.std.proofs.lemmas.Bool.Decides.{nat_tests}
-use Rattle.std.proofs.lemmas.List.{append-nil}
-use Rattle.std.proofs.lemmas.List.Folds.{list_all-append}
+use Rattle.std.proofs.Common.{◌≡◌, ℕ, ◌+◌, ◌≤◌, Bool, true, false, not, ◌&&◌, ◌||◌, List, [], ◌∷◌, ◌++◌, length, All, refl, sym, ◌∙◌, arith}
+use Rattle.std.specs.Prelude.{nat_le}
+use Rattle.std.specs.List.{list_all}
+use Rattle.std.proofs.lemmas.Bool.{leb-true, le-leb}
 use Rattle.std.proofs.lemmas.List.Sums.{fold_push}
-use Rattle.std.proofs.lemmas.List.Elements.{All-head, All-tail, All-nil, All-cons, All-push}
-use Rattle.std.proofs.lemmas.List.Sorted.{All-permutation, IsPermutation-refl, IsPermutation-cons, IsPermutation-trans}
-use Rattle.item_lists.specs.Faults.{first_of, unless}
-use Rattle.item_lists.proofs.FaultLaws.{nil_of_append, nil_of_none, holds_of_nil}
+use Rattle.std.proofs.lemmas.List.Elements.{All-head, All-tail, All-nil, All-push}
+use Rattle.item_lists.proofs.FaultLaws.{nil_of_append, holds_of_nil}
 use Rattle.plant_model.specs.declared.parts.Parts.{Parts}
-use Rattle.plant_model.specs.Relations.{ordered_of, independent_of}
-use Rattle.plant_model.specs.Sound.{SoundPlant}
+use Rattle.plant_model.specs.Relations.{ordered_of}
 use Rattle.replay_core.specs.declared.timed.Timed.{Timed}
 use Rattle.replay_core.specs.declared.order.Order.TheVariants.{ByStart, BySlot}
 use Rattle.replay_core.specs.Rules.{last_start, starts_in_order, starts_after_ordered}
-use Rattle.replay_core.specs.Legal.{broken, own_faults, order_faults, place_faults, op_faults, step_faults_from, step_faults, end_faults, first_broken_in, IsLegalIn, IsLegal, CanRun}
+use Rattle.replay_core.specs.Legal.{broken, own_faults, order_faults, place_faults, op_faults, step_faults_from, step_faults, IsLegalIn, IsLegal, CanRun}
 use Rattle.replay_core.proofs.RuleLaws.{rules_kept}
 use Rattle.replay_core.proofs.StepLaws.{CanRun-legal, first_broken-accepted}
-use Rattle.slot_words.specs.Swaps.{AreEquivalent, MeansTheSame}
-use Rattle.slot_words.specs.ByStart.{starts_at, IsByStart}
-use Rattle.slot_words.proofs.ChainLaws.{one_swap, joined, behind, equivalent_mean_the_same, same_entries}
 
 -- ---- a plan keeps the order of slots
 
@@ -75,7 +65,7 @@ slot-from parts before (t ∷ later) each none =
     let all : All (λ (s : Timed). s.start ≤ t.start) before = λ k d within. (let one = each k d within in omega arith) in
     let here = slot-faults parts before t at kept.own (after-ordered parts before t all) kept.places in
     let next : All (λ (s : Timed). s.start ≤ last_start (before ++ t ∷ [])) (before ++ t ∷ []) =
-        rw (last_start_push before t) (All-push (λ (s : Timed). s.start ≤ t.start) before t all (omega arith)) in
+    rw (last_start_push before t) (All-push (λ (s : Timed). s.start ≤ t.start) before t all (omega arith)) in
     rw here (slot-from parts (before ++ t ∷ []) later next parted.1)
 
 pub runs_by_slot : (parts : Parts) (plan : List Timed) → CanRun parts ByStart plan → CanRun parts BySlot plan

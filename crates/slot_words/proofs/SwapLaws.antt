@@ -1,15 +1,13 @@
 -- A swap of independent neighbours keeps what a word means.
-use Rattle.std.proofs.Common.{◌≡◌, ℕ, zero, suc, ◌+◌, ◌-◌, ◌*◌, ◌<◌, ◌≤◌, max, ℤ, pos, Bool, true, false, if◌then◌else◌, List, [], ◌∷◌, ◌++◌, length, get_or, set, fold, refl, sym, ap, subst, ◌∙◌, append_assoc, arith}
-use Rattle.std.specs.Prelude.{◌+ℤ◌, ◌-ℤ◌, cond, sum_by}
-use Rattle.std.specs.List.{swap}
+use Rattle.std.proofs.Common.{◌≡◌, ℕ, zero, suc, ◌+◌, ◌-◌, ◌*◌, max, ℤ, pos, Bool, true, false, if◌then◌else◌, List, [], ◌∷◌, ◌++◌, length, fold, refl, sym, ap, ◌∙◌, append_assoc, arith}
+use Rattle.std.specs.Prelude.{◌-ℤ◌, cond}
 use Rattle.std.specs.List.Sorted.{IsPermutation}
 use Rattle.std.proofs.lemmas.Int.{ints}
-use Rattle.std.proofs.lemmas.List.{append-nil, length-append, set_at, get_or_at}
 use Rattle.std.proofs.lemmas.List.Sums.{fold-append}
 use Rattle.std.proofs.lemmas.List.Sorted.{IsPermutation-append_right, IsPermutation-swap, sum_by-IsPermutation}
 use Rattle.number_laws.specs.Sums.{sum_below}
 use Rattle.item_lists.specs.Faults.{each_from, unless, first_of}
-use Rattle.item_lists.proofs.FaultLaws.{nil_of_append, nil_of_none}
+use Rattle.item_lists.proofs.FaultLaws.{nil_of_append}
 use Rattle.plant_model.specs.declared.parts.Parts.{Parts}
 use Rattle.plant_model.specs.declared.details.PlaceInfo.{PlaceInfo}
 use Rattle.plant_model.specs.Parts.{place_count_of, place_of, places_of}
@@ -17,20 +15,18 @@ use Rattle.plant_model.specs.Relations.{independent_of}
 use Rattle.plant_model.specs.Sound.{SoundPlant}
 use Rattle.plant_model.proofs.RelationLaws.{independent_of-symmetric, apart_from_independent}
 use Rattle.replay_core.specs.declared.timed.Timed.{Timed}
-use Rattle.replay_core.specs.declared.broken.Broken.{Broken}
 use Rattle.replay_core.specs.declared.order.Order.TheVariants.{BySlot}
 use Rattle.replay_core.specs.State.{drawn_of, after_step, state_after}
 use Rattle.replay_core.specs.Counts.{charges_unit, charges_from, unloads_from, charges_of, minutes_of, charged_of, latest_of, last_end_of}
 use Rattle.replay_core.specs.Rules.{is_emptied, meets_demand, meets_charges}
-use Rattle.replay_core.specs.Legal.{broken, op_faults, step_faults_from, step_faults, faults_at_places, vessel_faults, demand_faults, unit_faults, end_faults, plan_faults, first_broken_in, IsLegalIn, CanRun}
+use Rattle.replay_core.specs.Legal.{broken, op_faults, step_faults_from, step_faults, faults_at_places, vessel_faults, demand_faults, unit_faults, end_faults, IsLegalIn, CanRun}
 use Rattle.replay_core.specs.Margin.{earned_at, earned_from, earned_of, wait_of, demurrage_of, margin_of}
-use Rattle.replay_core.specs.inside.Levels.{HoldsWithin}
 use Rattle.replay_core.proofs.StepLaws.{step_faults_from-append, CanRun-legal, first_broken-accepted}
 use Rattle.replay_core.proofs.MarginLaws.{earned_from-append}
 use Rattle.replay_core.proofs.StateLaws.{holds_within-accepted, state_after_push}
-use Rattle.slot_words.specs.Swaps.{IsSwap, AreEquivalent, MeansTheSame}
-use Rattle.slot_words.proofs.MoveLaws.{keep_apart, moved_either_way, draw-kept, other_way}
-use Rattle.slot_words.proofs.PairLaws.{MayRun, MayRunBoth, may_run, no_faults, soundly, has_places, other_way_round}
+use Rattle.slot_words.specs.Swaps.{MeansTheSame}
+use Rattle.slot_words.proofs.MoveLaws.{keep_apart, moved_either_way, draw-kept}
+use Rattle.slot_words.proofs.PairLaws.{MayRunBoth, may_run, no_faults, soundly, has_places, other_way_round}
 use Rattle.slot_words.proofs.AlikeLaws.{AreAlike, swapped_alike, steps-alike, earned-alike, state-alike}
 
 -- ---- the same operations
@@ -145,7 +141,7 @@ stands : (parts : Parts) (front back : List Timed) (s t : Timed) → CanRun part
 unfolding step_faults
 stands parts front back s t can_run =
     let all = nil_of_append (step_faults_from parts BySlot [] front) (step_faults_from parts BySlot front (s ∷ t ∷ back))
-        (sym (step_faults_from-append parts BySlot [] front (s ∷ t ∷ back)) ∙ can_run) in
+    (sym (step_faults_from-append parts BySlot [] front (s ∷ t ∷ back)) ∙ can_run) in
     let first = nil_of_append (op_faults parts BySlot front s (length front + 1)) (step_faults_from parts BySlot (front ++ s ∷ []) (t ∷ back)) all.1 in
     let second = nil_of_append (op_faults parts BySlot (front ++ s ∷ []) t (length (front ++ s ∷ []) + 1)) (step_faults_from parts BySlot (front ++ s ∷ [] ++ t ∷ []) back) first.1 in
     record {
@@ -169,7 +165,7 @@ can_run parts front back s t here =
 -- what they find and leave, whichever of them comes first
 moved-swapped : (parts : Parts) (front back : List Timed) (s t : Timed) → SoundPlant parts → independent_of parts s.op t.op ≡ true → Stands parts front back s t →
     Stands parts front back t s
-        × (after_step parts (after_step parts (state_after parts front) s) t ≡ after_step parts (after_step parts (state_after parts front) t) s)
+    × (after_step parts (after_step parts (state_after parts front) s) t ≡ after_step parts (after_step parts (state_after parts front) t) s)
 moved-swapped parts front back s t sound independent here =
     let holds = holds_within-accepted parts BySlot front sound here.before in
     let round = other_way_round parts front s t sound holds independent here.both in
@@ -222,6 +218,7 @@ swap_keeps parts front back s t sound independent =
     held-swapped parts front back s t alike =
         ap (state_after parts) (two_behind front back t s) ∙ sym (state-alike parts (front ++ s ∷ t ∷ []) (front ++ t ∷ s ∷ []) back alike)
         ∙ sym (ap (state_after parts) (two_behind front back s t))
+
     legal-swapped : (parts : Parts) (word other : List Timed) → IsLegalIn parts BySlot word → CanRun parts BySlot other → state_after parts other ≡ state_after parts word →
         CountsTheSame parts word other → IsLegalIn parts BySlot other
     legal-swapped parts word other legal runs held counts =

@@ -1,7 +1,7 @@
 -- What the calls of this crate do to a word.
-use Rattle.std.proofs.Common.{◌≡◌, ℕ, zero, suc, ◌+◌, ◌-◌, ◌<◌, ◌≤◌, Bool, true, false, not, ◌&&◌, eqb, leb, ltb, cond, List, [], ◌∷◌, ◌++◌, length, take, drop, get_or, set, map, refl, sym, ap, subst, ◌∙◌, append_assoc, arith}
+use Rattle.std.proofs.Common.{◌≡◌, ℕ, zero, suc, ◌+◌, ◌-◌, ◌<◌, ◌≤◌, Bool, true, not, ◌&&◌, eqb, cond, List, [], ◌∷◌, ◌++◌, length, take, drop, get_or, set, refl, sym, ap, subst, ◌∙◌, append_assoc, arith}
 use Rattle.std.specs.List.{swap, filter}
-use Rattle.std.specs.List.Sorted.{IsStableByKey, IsNonDecreasingBy, IsPermutation, ties}
+use Rattle.std.specs.List.Sorted.{IsStableByKey, ties}
 use Rattle.std.specs.Ordering.{nat_cmp, is_lt}
 use Rattle.std.specs.Fn.{Called, ComputesKey}
 use denote.Ref.{Bor}
@@ -14,7 +14,7 @@ use Rattle.plant_model.specs.declared.parts.Parts.{Parts}
 use Rattle.plant_model.specs.Relations.{independent_of}
 use Rattle.replay_core.specs.declared.timed.Timed.{Timed}
 use Rattle.slot_words.specs.Swaps.{AreEquivalent, op_at}
-use Rattle.slot_words.specs.ByStart.{starts_at, IsByStart}
+use Rattle.slot_words.specs.ByStart.{starts_at}
 use Rattle.slot_words.proofs.ChainLaws.{one_swap}
 
 -- ---- a swap by number
@@ -56,8 +56,8 @@ swap_is_equivalent parts word k within independent =
     let back = drop (k + 2) word in
     let split = at_split word k d within in
     let apart : independent_of parts s.op t.op ≡ true =
-        ap (λ (v : ℕ). independent_of parts v t.op) (sym (op_at-entry word k d (omega arith)))
-        ∙ ap (λ (w : ℕ). independent_of parts (op_at word k) w) (sym (op_at-entry word (k + 1) d within)) ∙ independent in
+    ap (λ (v : ℕ). independent_of parts v t.op) (sym (op_at-entry word k d (omega arith)))
+    ∙ ap (λ (w : ℕ). independent_of parts (op_at word k) w) (sym (op_at-entry word (k + 1) d within)) ∙ independent in
     let swapped = ap (λ (xs : List Timed). swap xs k (k + 1)) split ∙ swap_split front back s t k (length-take-le k word (omega arith)) in
     subst (λ (other : List Timed). AreEquivalent parts word other) (sym swapped)
     (subst (λ (first : List Timed). AreEquivalent parts first (front ++ t ∷ s ∷ back)) (sym split) (one_swap parts front back s t apart))

@@ -11,9 +11,9 @@
 #![tactic(auto)]
 
 mod laws;
-mod words;
 #[cfg(test)]
 mod tests;
+mod words;
 
 pub use laws::word_laws;
 pub use replay_core::Word;

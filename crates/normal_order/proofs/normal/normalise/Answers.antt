@@ -1,8 +1,7 @@
-use Rattle.std.proofs.Common.{◌≡◌, ◌<◌, ◌+◌, [], take, length, get_or, ap, sym, subst, ◌∙◌}
+use Rattle.std.proofs.Common.{◌≡◌, [], take, get_or, ap, sym, subst, ◌∙◌}
 use Rattle.std.specs.List.{insert}
 use Rattle.std.proofs.lemmas.List.{take_all}
 use Rattle.replay_core.specs.declared.timed.Timed.{Timed}
-use Rattle.slot_words.specs.Swaps.{MeansTheSame}
 use Rattle.normal_order.specs.NormalWords.{AreKnown, IsNormalForm}
 use Rattle.normal_order.specs.inside.Seats.{seat_of}
 use Rattle.normal_order.proofs.FormLaws.{all_seated, all_seated-known, all_seated-more, all_seated_is_normal_form}

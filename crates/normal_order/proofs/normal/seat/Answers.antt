@@ -1,4 +1,4 @@
-use Rattle.std.proofs.Common.{◌≡◌, ◌≤◌, ◌∙◌, true, false, ap, length, arith}
+use Rattle.std.proofs.Common.{◌∙◌, true, false, ap, arith}
 use Rattle.std.proofs.lemmas.List.{take_all}
 use Rattle.replay_core.specs.declared.timed.Timed.{Timed}
 use Rattle.normal_order.specs.inside.Seats.{seat_of}

@@ -1,4 +1,4 @@
-use Rattle.std.proofs.Common.{◌≡◌, ◌≤◌, take}
+use Rattle.std.proofs.Common.{◌≡◌, take}
 use Rattle.normal_order.specs.inside.Seats.{seat_of}
 use Rattle.normal_order.proofs.normal.seat.Given as goal
 

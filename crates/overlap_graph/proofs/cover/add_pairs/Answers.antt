@@ -21,5 +21,5 @@ loop-w-preserved c =
 pub returns : goal.returns
 returns c =
     let all : c.loop-w.w ≡ op_count_of c.args.plant.now =
-        omega (arith, c.loop-w-test.false, c.loop-w.auto.w-end, c.op_count-w-end.ensures.value, c.requires.known) in
+    omega (arith, c.loop-w-test.false, c.loop-w.auto.w-end, c.op_count-w-end.ensures.value, c.requires.known) in
     c.loop-w.invariant ∙ ap (λ n. fold (with_pair c.args.plant.now c.args.v) c.args.cliques.now (range_with_len c.args.v (n - c.args.v))) all

@@ -1,4 +1,4 @@
-use Rattle.std.proofs.Common.{◌≡◌, ◌<◌, ◌+◌, true, false, get_or, ap, sym, ◌∙◌, arith, length}
+use Rattle.std.proofs.Common.{◌≡◌, ◌<◌, true, false, get_or, ap, sym, ◌∙◌, arith, length}
 use Rattle.std.specs.Prelude.{fold}
 use Rattle.std.specs.List.{range_with_len}
 use Rattle.plant_model.specs.Parts.{op_count_of}
@@ -18,7 +18,7 @@ loop-u-preserved c =
     let u = c.loop-u.u in
     let known : u < op_count_of parts = omega (arith, c.loop-u-test.true, c.op_count-u-end.ensures.value) in
     let set : get_or c.args.refused.now c.from.result 0 ≡ get_or (refused_masks_of parts) u 0 =
-        ap (λ xs. get_or xs c.from.result 0) c.requires ∙ ap (λ k. get_or (refused_masks_of parts) k 0) c.from.ensures in
+    ap (λ xs. get_or xs c.from.result 0) c.requires ∙ ap (λ k. get_or (refused_masks_of parts) k 0) c.from.ensures in
     let asked = sym (ap (is_within c.loop-u.clique) set) in
     elim c.if-is_within.branch [
       | then-is_within w ↦
@@ -32,5 +32,5 @@ pub returns : goal.returns
 unfolding clique_from
 returns c =
     let all : c.loop-u.u ≡ op_count_of c.args.plant.now =
-        omega (arith, c.loop-u-test.false, c.loop-u.auto.u-end, c.op_count-u-end.ensures.value) in
+    omega (arith, c.loop-u-test.false, c.loop-u.auto.u-end, c.op_count-u-end.ensures.value) in
     c.loop-u.invariant ∙ ap (λ n. fold (joined_by c.args.plant.now) c.args.first (range_with_len 0 n)) all

@@ -15,5 +15,5 @@ pub returns : goal.returns
 unfolding cliques_of
 returns c =
     let all : c.loop-v.v ≡ op_count_of c.args.plant.now =
-        omega (arith, c.loop-v-test.false, c.loop-v.auto.v-end, c.op_count-v-end.ensures.value) in
+    omega (arith, c.loop-v-test.false, c.loop-v.auto.v-end, c.op_count-v-end.ensures.value) in
     c.loop-v.invariant ∙ ap (λ n. fold (with_pairs c.args.plant.now) [] (range_with_len 0 n)) all

@@ -9,5 +9,5 @@ pub returns : goal.returns
 unfolding refused_mask_of
 returns c =
     let all : c.loop-w.w ≡ op_count_of c.args.plant.now =
-        omega (arith, c.loop-w-test.false, c.loop-w.auto.w-end, c.op_count-w-end.ensures.value) in
+    omega (arith, c.loop-w-test.false, c.loop-w.auto.w-end, c.op_count-w-end.ensures.value) in
     c.loop-w.invariant ∙ ap (λ n. set_of n (refused_at_once_of c.args.plant.now c.args.v)) all

@@ -16,5 +16,5 @@ pub returns : goal.returns
 unfolding refused_masks_of
 returns c =
     let all : c.loop-v.v ≡ op_count_of c.args.plant.now =
-        omega (arith, c.loop-v-test.false, c.loop-v.auto.v-end, c.op_count-v-end.ensures.value) in
+    omega (arith, c.loop-v-test.false, c.loop-v.auto.v-end, c.op_count-v-end.ensures.value) in
     record { value = c.loop-v.invariant ∙ ap (λ n. map (refused_mask_of c.args.plant.now) (range_with_len 0 n)) all }

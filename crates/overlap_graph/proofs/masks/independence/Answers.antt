@@ -1,4 +1,4 @@
-use Rattle.std.proofs.Common.{◌≡◌, ◌≤◌, ◌++◌, ◌∷◌, [], map, length, ap, sym, subst, ◌∙◌, arith}
+use Rattle.std.proofs.Common.{◌≡◌, ◌++◌, ◌∷◌, [], map, length, ap, sym, subst, ◌∙◌, arith}
 use Rattle.std.specs.List.{range_with_len}
 use Rattle.std.proofs.lemmas.List.FromFn.{map-range_with_len_more}
 use Rattle.plant_model.specs.Parts.{op_count_of}
@@ -17,7 +17,7 @@ whole : (c : goal.After-loop-v) → c.loop-v.masks ≡ independence_of c.args.pl
 unfolding independence_of
 whole c =
     let all : c.loop-v.v ≡ op_count_of c.args.plant.now =
-        omega (arith, c.loop-v-test.false, c.loop-v.auto.v-end, c.op_count-v-end.ensures.value) in
+    omega (arith, c.loop-v-test.false, c.loop-v.auto.v-end, c.op_count-v-end.ensures.value) in
     c.loop-v.invariant ∙ ap (λ n. map (independent_mask_of c.args.plant.now) (range_with_len 0 n)) all
 
 pub returns-clause-value : goal.returns-clause-value

@@ -1,6 +1,6 @@
 use Rattle.std.proofs.Common.{◌≡◌, true, false, not, ap, sym, subst, ◌∙◌, arith}
 use Rattle.plant_model.specs.Parts.{op_count_of}
-use Rattle.plant_model.specs.Relations.{ordered_of, independent_of}
+use Rattle.plant_model.specs.Relations.{independent_of}
 use Rattle.overlap_graph.specs.Sets.{set_of}
 use Rattle.overlap_graph.specs.Independence.{independent_mask_of, IsIndependentSet}
 use Rattle.overlap_graph.proofs.SetLaws.{set_step}
@@ -24,7 +24,7 @@ whole : (c : goal.After-loop-w) → c.loop-w.mask ≡ independent_mask_of c.args
 unfolding independent_mask_of
 whole c =
     let all : c.loop-w.w ≡ op_count_of c.args.plant.now =
-        omega (arith, c.loop-w-test.false, c.loop-w.auto.w-end, c.op_count-w-end.ensures.value) in
+    omega (arith, c.loop-w-test.false, c.loop-w.auto.w-end, c.op_count-w-end.ensures.value) in
     c.loop-w.invariant ∙ ap (λ n. set_of n (independent_of c.args.plant.now c.args.v)) all
 
 pub returns-clause-value : goal.returns-clause-value
