@@ -27,24 +27,24 @@ use Rattle.slot_forms.specs.Forms.{word_of, is_all_idle, is_form, entry_of, Plan
 -- ---- words and forms
 
 -- the form of a plan in n slots: its operations in the first, and idle in the rest
-abbrev form_of : ℕ → List Timed → List Entry
+abbrev pub form_of : ℕ → List Timed → List Entry
 form_of n plan = map entry_of plan ++ replicate (n - length plan) idle
 
-word_of-steps : (plan : List Timed) (rest : List Entry) → word_of (map entry_of plan ++ rest) ≡ plan ++ word_of rest
+pub word_of-steps : (plan : List Timed) (rest : List Entry) → word_of (map entry_of plan ++ rest) ≡ plan ++ word_of rest
 word_of-steps [] rest = refl
 word_of-steps (t ∷ plan) rest = ap (λ (later : List Timed). t ∷ later) (word_of-steps plan rest)
 
-word_of-idle : (k : ℕ) → word_of (replicate k idle) ≡ []
+pub word_of-idle : (k : ℕ) → word_of (replicate k idle) ≡ []
 word_of-idle zero = refl
 word_of-idle (suc k) = word_of-idle k
 
-word_of-form_of : (n : ℕ) (plan : List Timed) → word_of (form_of n plan) ≡ plan
+pub word_of-form_of : (n : ℕ) (plan : List Timed) → word_of (form_of n plan) ≡ plan
 word_of-form_of n plan =
     word_of-steps plan (replicate (n - length plan) idle)
     ∙ ap (λ (later : List Timed). plan ++ later) (word_of-idle (n - length plan))
     ∙ append-nil plan
 
-is_form-steps : (plan : List Timed) (rest : List Entry) → is_form (map entry_of plan ++ rest) ≡ is_form rest
+pub is_form-steps : (plan : List Timed) (rest : List Entry) → is_form (map entry_of plan ++ rest) ≡ is_form rest
 is_form-steps [] rest = refl
 is_form-steps (t ∷ plan) rest = is_form-steps plan rest
 
@@ -52,11 +52,11 @@ is_all_idle-idle : (k : ℕ) → is_all_idle (replicate k idle) ≡ true
 is_all_idle-idle zero = refl
 is_all_idle-idle (suc k) = is_all_idle-idle k
 
-is_form-idle : (k : ℕ) → is_form (replicate k idle) ≡ true
+pub is_form-idle : (k : ℕ) → is_form (replicate k idle) ≡ true
 is_form-idle zero = refl
 is_form-idle (suc k) = is_all_idle-idle k
 
-is_form-form_of : (n : ℕ) (plan : List Timed) → is_form (form_of n plan) ≡ true
+pub is_form-form_of : (n : ℕ) (plan : List Timed) → is_form (form_of n plan) ≡ true
 is_form-form_of n plan = is_form-steps plan (replicate (n - length plan) idle) ∙ is_form-idle (n - length plan)
 
 -- ---- the form of a plan in a box of like slots
@@ -65,7 +65,7 @@ idle_point : (s : Slot) (k : ℕ) → LiesIn s idle → IsPoint (replicate k s) 
 idle_point s zero rests = tt
 idle_point s (suc k) rests = (rests, idle_point s k rests)
 
-form_point : (s : Slot) (n k : ℕ) (plan : List Timed) → LiesIn s idle → All (λ (t : Timed). LiesIn s (entry_of t)) plan → n ≡ length plan + k →
+pub form_point : (s : Slot) (n k : ℕ) (plan : List Timed) → LiesIn s idle → All (λ (t : Timed). LiesIn s (entry_of t)) plan → n ≡ length plan + k →
     IsPoint (replicate n s) (map entry_of plan ++ replicate k idle)
 form_point s n k [] rests each count =
     let same : k ≡ n = omega arith in subst (λ (m : ℕ). IsPoint (replicate m s) (replicate k idle)) same (idle_point s k rests)
@@ -103,7 +103,7 @@ root_boxes_are_boxes parts roots sound n some most =
     roots n (op_count_of parts) (greatest_volume_of parts) (horizon_of parts) some most sound.ops (greatest-within parts sound) sound.horizon.1
 
 -- each slot of the root box may run an operation that keeps its ranges
-runs_in_root : (parts : Parts) → RootSlotsMayRun → SoundPlant parts → (t : Timed) → IsInRange parts t →
+pub runs_in_root : (parts : Parts) → RootSlotsMayRun → SoundPlant parts → (t : Timed) → IsInRange parts t →
     LiesIn (whole_slot (op_count_of parts) (greatest_volume_of parts) (horizon_of parts)) (entry_of t)
 runs_in_root parts may_run sound t range =
     let known = range.known in

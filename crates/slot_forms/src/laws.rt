@@ -1,10 +1,13 @@
-ghost use Rattle.std.specs.Prelude.{ℕ};
-ghost use Rattle.slot_forms.specs.Cases.{PlainCasesSayTheSame, PlainRootsAreBoxes, plain};
+ghost use Rattle.std.specs.Prelude.{ℕ, Option};
+ghost use Rattle.slot_forms.specs.Cases.{Begun, PlainCasesSayTheSame, PlainRootsAreBoxes, plain};
 ghost use Rattle.slot_forms.specs.Forms.{PlansHaveForms};
+ghost use Rattle.slot_forms.specs.NormalForms.{PlansHaveNormalForms};
 
+use normal_order::normal_order_laws;
 use plant_model::Plant;
 use replay_core::legal_plan_laws;
 use slot_box::box_laws;
+use slot_words::word_laws;
 
 /// What is so of the plain cases of the plant and their slot forms, for whoever reasons about them: a call
 /// does nothing and brings the laws.
@@ -12,8 +15,12 @@ pub fn form_laws(plant: &Plant)
     ensures boxes { PlainRootsAreBoxes plant.now }
     ensures forms { (n : ℕ) → PlansHaveForms (plain plant.now n) }
     ensures same { PlainCasesSayTheSame plant.now }
+    ensures normal { (slots : ℕ) (begun : Option Begun)
+        → PlansHaveNormalForms (record { parts = plant.now; slots = slots; begun = begun }) }
 {
     plant.sound();
     legal_plan_laws();
     box_laws();
+    word_laws(plant);
+    normal_order_laws(plant);
 }
