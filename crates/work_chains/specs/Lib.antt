@@ -1,0 +1,3 @@
+pub mod BoxChains
+pub mod Chains
+pub mod Laws
