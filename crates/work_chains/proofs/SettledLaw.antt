@@ -11,22 +11,8 @@ use Rattle.number_counts.specs.Counts.{times, HasEachBelow}
 use Rattle.work_chains.specs.Chains.{Noted, inner_note, leaf_note, ids_of, tickets_of, task_ids, AreChains, no_task, in_hand, closes, divides, Reaches, at_root, at_left, at_right, AreSettled, TakesAllHanded}
 use Rattle.work_chains.specs.BoxChains.{DividesBox}
 use Rattle.work_chains.specs.Laws.{ChainsSettle}
+use Rattle.work_chains.proofs.Members.{among-none, among-first, among-rest, among-which}
 use Rattle.work_chains.proofs.NodeNumbers.{lefts, rights, nodes-below}
-
--- ---- members of a list
-
-among_none : {X : Type 0} (x : X) → Contains [] x → ⊥
-among_none x there = absurd (let lt = there.1 in omega arith)
-
-among_first : {X : Type 0} (x : X) (xs : List X) → Contains (x ∷ xs) x
-among_first x xs = (0, omega arith, refl)
-
-among_rest : {X : Type 0} (y : X) (xs : List X) (x : X) → Contains xs x → Contains (y ∷ xs) x
-among_rest y xs x there = let lt = there.1 in (suc there.0, omega arith, there.2)
-
-among_which : {X : Type 0} (y : X) (xs : List X) (x : X) → Contains (y ∷ xs) x → (x ≡ y) ⊎ Contains xs x
-among_which y xs x (zero, lt, is) = inl (sym is)
-among_which y xs x (suc k, lt, is) = inr (k, omega arith, is)
 
 module _ {B S : Type 0} (Divides : B → S → Type 0) (left right : B → S → B) where
   abbrev Note : Type 0
@@ -70,14 +56,14 @@ module _ {B S : Type 0} (Divides : B → S → Type 0) (left right : B → S →
     ticket = has.ticket;
     split = has.split;
     lawful = has.lawful;
-    noted = among_rest note notes _ has.noted;
+    noted = among-rest note notes _ has.noted;
     part = has.part;
   }
 
   handed_from : {taken : List (ℕ × B)} {notes : List Note} {handed : List (ℕ × B)} {hand : Option (ℕ × B)} → Chains taken notes handed hand
       → (task : ℕ × B) → Contains handed task → HasHolder notes task.0 task.1
-  handed_from no_task task there = absurd (among_none task there)
-  handed_from (in_hand first) task there = absurd (among_none task there)
+  handed_from no_task task there = absurd (among-none task there)
+  handed_from (in_hand first) task there = absurd (among-none task there)
   handed_from (closes id box chains) task there = holder-later _ _ _ _ (handed_from chains task there)
   handed_from (divides id box ticket split lawful chains) task there = ⊎_elim
       (λ (is : task ≡ (2 * ticket + 2, right box split)). record {
@@ -86,22 +72,22 @@ module _ {B S : Type 0} (Divides : B → S → Type 0) (left right : B → S →
         ticket = ticket;
         split = split;
         lawful = lawful;
-        noted = among_first _ _;
+        noted = among-first _ _;
         part = inr (ap (λ (t : ℕ × B). t.0) is, ap (λ (t : ℕ × B). t.1) is);
       })
       (λ rest. holder-later _ _ _ _ (handed_from chains task rest))
-      (among_which _ _ task there)
+      (among-which _ _ task there)
 
   noted_from : {taken : List (ℕ × B)} {notes : List Note} {handed : List (ℕ × B)} {hand : Option (ℕ × B)} → Chains taken notes handed hand
       → (note : Note) → Contains notes note → Contains taken (note.id, note.box) ⊎ HasHolder notes note.id note.box
-  noted_from no_task note there = absurd (among_none note there)
-  noted_from (in_hand task) note there = absurd (among_none note there)
+  noted_from no_task note there = absurd (among-none note there)
+  noted_from (in_hand task) note there = absurd (among-none note there)
   noted_from (closes id box {taken = taken} chains) note there = ⊎_elim
-      (λ (is : note ≡ leaf_note id box). inl (subst (λ (n : Note). Contains ((id, box) ∷ taken) (n.id, n.box)) (sym is) (among_first _ _)))
-      (λ rest. ⊎_elim (λ was. inl (among_rest _ _ _ was)) (λ has. inr (holder-later _ _ _ _ has)) (noted_from chains note rest))
-      (among_which _ _ note there)
+      (λ (is : note ≡ leaf_note id box). inl (subst (λ (n : Note). Contains ((id, box) ∷ taken) (n.id, n.box)) (sym is) (among-first _ _)))
+      (λ rest. ⊎_elim (λ was. inl (among-rest _ _ _ was)) (λ has. inr (holder-later _ _ _ _ has)) (noted_from chains note rest))
+      (among-which _ _ note there)
   noted_from (divides id box ticket split {taken = taken} lawful chains) note there = ⊎_elim
-      (λ (is : note ≡ inner_note id box ticket split). inl (subst (λ (n : Note). Contains ((id, box) ∷ taken) (n.id, n.box)) (sym is) (among_first _ _)))
+      (λ (is : note ≡ inner_note id box ticket split). inl (subst (λ (n : Note). Contains ((id, box) ∷ taken) (n.id, n.box)) (sym is) (among-first _ _)))
       (λ rest. ⊎_elim
       (λ was. ⊎_elim
       (λ (is : (note.id, note.box) ≡ (2 * ticket + 1, left box split)). inr (record {
@@ -110,14 +96,14 @@ module _ {B S : Type 0} (Divides : B → S → Type 0) (left right : B → S →
         ticket = ticket;
         split = split;
         lawful = lawful;
-        noted = among_first _ _;
+        noted = among-first _ _;
         part = inl (ap (λ (t : ℕ × B). t.0) is, ap (λ (t : ℕ × B). t.1) is);
       }))
-      (λ more. inl (among_rest _ _ _ more))
-      (among_which _ _ (note.id, note.box) was))
+      (λ more. inl (among-rest _ _ _ more))
+      (among-which _ _ (note.id, note.box) was))
       (λ has. inr (holder-later _ _ _ _ has))
       (noted_from chains note rest))
-      (among_which _ _ note there)
+      (among-which _ _ note there)
 
   -- ---- the way up
 
@@ -128,11 +114,11 @@ module _ {B S : Type 0} (Divides : B → S → Type 0) (left right : B → S →
     greatest (note ∷ notes) = max (size note.box) (greatest notes)
 
     at_most : (notes : List Note) (note : Note) → Contains notes note → size note.box ≤ greatest notes
-    at_most [] note there = absurd (among_none note there)
+    at_most [] note there = absurd (among-none note there)
     at_most (first ∷ notes) note there = ⊎_elim
         (λ (is : note ≡ first). let e : size note.box ≡ size first.box = ap (λ (n : Note). size n.box) is in let le = le-max_left (size first.box) (greatest notes) in omega arith)
         (λ rest. let le = at_most notes note rest in let more = le-max_right (size first.box) (greatest notes) in omega arith)
-        (among_which first notes note there)
+        (among-which first notes note there)
 
     module _ (root : B) (taken : List (ℕ × B)) (notes : List Note) (handed : List (ℕ × B)) (chains : Chains taken notes handed None) (all : TakesAllHanded root taken handed) where
       -- a note is that of the root, or its box is a part
