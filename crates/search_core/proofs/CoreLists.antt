@@ -1,9 +1,9 @@
 -- Lists of workers and of notes, where one worker changes or one note is added.
-use Rattle.std.proofs.Common.{◌≡◌, ◌≢◌, ℕ, zero, suc, ◌+◌, ◌*◌, ◌<◌, ◌≤◌, cond, eqb, Bool, true, false, true≢false, Option, Some, None, List, [], ◌∷◌, ◌++◌, length, length-append, length-set, drop, append-nil, set, get_or, refl, sym, ap, ◌∙◌, append_assoc, arith}
+use Rattle.std.proofs.Common.{◌≡◌, ℕ, zero, suc, ◌+◌, ◌*◌, ◌<◌, ◌≤◌, cond, eqb, Bool, true, false, true≢false, Option, Some, None, List, [], ◌∷◌, ◌++◌, length, length-append, length-set, drop, append-nil, set, get_or, refl, sym, ap, ◌∙◌, append_assoc, arith}
 use Rattle.work_chains.specs.NodeChains.{NodeNote}
 use Rattle.std.specs.Prelude.{map, is_some, is_none, not, ◌&&◌, ◌||◌, IsTrue}
 use Rattle.std.specs.List.{flat_map}
-use Rattle.number_counts.specs.Counts.{one, times, HasEachBelow}
+use Rattle.number_counts.specs.Counts.{times, HasEachBelow}
 use Rattle.number_counts.proofs.CountLaws.{one-same, one-other, times-append}
 use mathlib.Core.Logic.{dite}
 use native.Mathlib.Decide.{ℕ_discrete}

@@ -1,25 +1,24 @@
 -- Each event leads from a good core to a good core.
-use Rattle.std.proofs.Common.{◌≡◌, ◌≢◌, ◌⊎◌, ℕ, ℤ, suc, ◌+◌, ◌*◌, ◌<◌, ◌≤◌, cond, eqb, Bool, true, false, true≢false, Option, Some, None, List, [], ◌∷◌, ◌++◌, length, length-append, length-set, set, get_or, drop, refl, sym, ap, ◌∙◌, subst, ⊎_elim, inl, inr, eq-eqb, ne_eqb, append_assoc, append-nil, arith}
+use Rattle.std.proofs.Common.{◌≡◌, ◌≢◌, ℕ, ℤ, suc, ◌+◌, ◌*◌, ◌<◌, ◌≤◌, cond, Bool, true, false, true≢false, Option, Some, None, List, [], ◌∷◌, ◌++◌, length, length-append, length-set, set, get_or, drop, refl, sym, ap, ◌∙◌, subst, ⊎_elim, inl, inr, eq-eqb, ne_eqb, arith}
 use mathlib.Core.Logic.{dite}
 use native.Mathlib.Decide.{ℕ_discrete, dec_le}
-use Rattle.std.specs.Prelude.{Contains, IsTrue, is_some, is_none, not, ◌&&◌, ◌||◌, nat_lt, map, unwrap_or}
+use Rattle.std.specs.Prelude.{IsTrue, is_some, nat_lt, unwrap_or}
 use Rattle.std.specs.Option.{option_to_list}
 use Rattle.std.proofs.lemmas.Option.{none-some, same_Some}
 use Rattle.std.proofs.lemmas.Bool.{ltb-true, ltb-false}
-use Rattle.number_counts.specs.Counts.{one, times, HasEachBelow}
+use Rattle.number_counts.specs.Counts.{times, HasEachBelow}
 use Rattle.number_counts.proofs.CountLaws.{one-same, one-other, times-append, each_below-next}
-use Rattle.work_chains.specs.Chains.{inner_note, leaf_note}
-use Rattle.work_chains.specs.NodeChains.{Nothing, NodeTask, NodeNote, AreNodeChains}
+use Rattle.work_chains.specs.NodeChains.{Nothing, NodeNote, AreNodeChains}
 use Rattle.work_chains.proofs.ChainLaws.{chains-take, chains-close, chains-divide}
 use Rattle.work_chains.proofs.Members.{among-last}
 use Rattle.search_core.specs.declared.note.CoreNote.{CoreNote}
 use Rattle.search_core.specs.declared.worker.Worker.{Worker}
-use Rattle.search_core.specs.Cores.{Core, fresh_worker, worker_at, with_worker, tickets_given, held_tickets, noted_tickets, nodes_of, waiting_nodes, noted_nodes, part_nodes, notes_by, node_note, outcome_of, task_in}
-use Rattle.search_core.specs.Events.{has_first, can_take, can_draw, can_close, is_known, taking, robbed, holding, drawing, dividing, better, node_in, ticket_in, with_note}
-use Rattle.search_core.specs.Good.{IsAtMost, spent_one, spent_count, HasTickets, HasNodes, HasChains, IsGoodWorker, IsOffered, IsGood}
+use Rattle.search_core.specs.Cores.{Core, fresh_worker, worker_at, with_worker, tickets_given, held_tickets, noted_tickets, nodes_of, waiting_nodes, noted_nodes, part_nodes, notes_by, node_note, task_in}
+use Rattle.search_core.specs.Events.{has_first, can_take, can_draw, can_close, taking, robbed, holding, drawing, dividing, better, node_in, ticket_in}
+use Rattle.search_core.specs.Good.{IsAtMost, spent_one, HasTickets, HasNodes, HasChains, IsGoodWorker, IsOffered, IsGood}
 use Rattle.search_core.proofs.CoreLists.{some-is, none-is, not-is, and-is, or-is, if-cases, has-first, Measure, times-measure, length-measure, counted-set, counted-at, spent-set, flat-last, map-last, parts-append, notes-by-last, each-same, part-bound}
-use Rattle.search_core.proofs.Margins.{at-most-same, at-most-trans, IsBetter, better-is, better-both, offer-either}
-use Rattle.search_core.proofs.Keeping.{IsGoodApart, apart-of, good-of, changed, one-changes, same-tickets, same-chains, assemble, others, here, there, still-offered, nodes-balanced, IsBalanced, balance}
+use Rattle.search_core.proofs.Margins.{at-most-same, at-most-trans, better-is, better-both, offer-either}
+use Rattle.search_core.proofs.Keeping.{IsGoodApart, apart-of, good-of, changed, one-changes, same-tickets, assemble, others, here, there, still-offered, nodes-balanced, balance}
 
 -- all lists of chains without boxes grow alike
 abbrev Any : Nothing → Nothing → Type 0

@@ -1,5 +1,5 @@
 -- What holds after all events that can come.
-use Rattle.std.proofs.Common.{◌≡◌, ◌≢◌, ◌⊎◌, ℕ, ℤ, zero, suc, ◌+◌, ◌-◌, ◌*◌, ◌<◌, ◌≤◌, cond, eqb, eq-eqb, Bool, true, false, true≢false, Option, Some, None, List, [], ◌∷◌, ◌++◌, length, get_or, replicate, refl, sym, ap, ◌∙◌, subst, ⊎_elim, inl, inr, append_assoc, append-nil, ne_eqb, arith}
+use Rattle.std.proofs.Common.{◌≡◌, ◌⊎◌, ℕ, ℤ, zero, suc, ◌+◌, ◌-◌, ◌*◌, ◌<◌, ◌≤◌, eq-eqb, Bool, true≢false, Option, Some, None, List, [], ◌∷◌, ◌++◌, length, get_or, replicate, refl, sym, ap, ◌∙◌, subst, ⊎_elim, inl, inr, append_assoc, append-nil, arith}
 use mathlib.Core.Logic.{dite}
 use native.Mathlib.Decide.{ℕ_discrete}
 use Rattle.std.specs.List.{flat_map}
@@ -8,7 +8,7 @@ use Rattle.std.proofs.lemmas.Option.{none-some, same_Some}
 use Rattle.std.proofs.lemmas.Int.{ints}
 use Rattle.std.proofs.lemmas.List.{get_or-replicate, length-replicate}
 use Rattle.std.proofs.lemmas.List.Elements.{Contains-push}
-use Rattle.number_counts.specs.Counts.{one, times, HasEachBelow}
+use Rattle.number_counts.specs.Counts.{times, HasEachBelow}
 use Rattle.number_counts.proofs.CountLaws.{one-same, one-other, each_below-none}
 use Rattle.work_chains.specs.Chains.{Reaches, at_root, at_left, at_right, inner_note, ids_of, tickets_of, no_task, in_hand}
 use Rattle.work_chains.specs.NodeChains.{Nothing, NodeNote, AreNodeChains, AreSettledNodes}
@@ -16,15 +16,15 @@ use Rattle.work_chains.proofs.Members.{among-none, among-first, among-rest, amon
 use Rattle.work_chains.proofs.NodeNumbers.{lefts, rights, nodes-below}
 use Rattle.search_core.specs.declared.note.CoreNote.{CoreNote}
 use Rattle.search_core.proofs.Margins.{at-most-trans, better-is}
-use Rattle.std.specs.Prelude.{map, Result, Ok, Err, OnOk, OnErr, Contains, IsTrue, ◌&&◌, nat_lt, ◌==◌, not, is_none, All}
+use Rattle.std.specs.Prelude.{map, Result, Ok, Err, OnOk, OnErr, Contains, IsTrue}
 use Rattle.std.proofs.lemmas.Bool.{ltb-true}
 use Rattle.search_core.specs.declared.event.Event.{Event}
 use Rattle.search_core.specs.declared.event.Event.TheVariants.{Take, Steal, Ticket, Split, Close, Offer, See, PushCut}
 use Rattle.search_core.specs.declared.worker.Worker.{Worker}
 use Rattle.search_core.specs.Cores.{Core, fresh_worker, first_core, worker_at, tickets_given, node_notes, nodes_of, held_tickets, noted_tickets, waiting_nodes, noted_nodes, part_nodes, notes_by, node_note, outcome_of}
-use Rattle.search_core.specs.Events.{is_enabled, is_known, after, has_first, better}
+use Rattle.search_core.specs.Events.{is_enabled, is_known, after, better}
 use Rattle.search_core.specs.Good.{IsAtMost, spent_count, IsGoodWorker, IsGood}
-use Rattle.search_core.specs.Laws.{IsRun, offers_of, IsGreatest, IsIdle, HasSpent, HoldsAfter, RunsAreGood}
+use Rattle.search_core.specs.Laws.{IsRun, offers_of, IsGreatest, IsIdle, HasSpent, RunsAreGood}
 use Rattle.search_core.proofs.CoreLists.{and-is, none-is, not-is}
 use Rattle.search_core.proofs.EventLaws.{take-good, steal-good, draw-good, split-good, close-good, offer-good, see-good, cut-good}
 

@@ -1,16 +1,16 @@
 -- How great the numbers of a good core are at most.
-use Rattle.std.proofs.Common.{◌≡◌, ℕ, zero, suc, ◌+◌, ◌*◌, ◌<◌, ◌≤◌, cond, Bool, true, false, Option, Some, None, List, [], ◌∷◌, ◌++◌, length, length-append, refl, sym, ap, ◌∙◌, arith}
+use Rattle.std.proofs.Common.{◌≡◌, ℕ, suc, ◌<◌, ◌≤◌, cond, Bool, true, false, Option, Some, None, List, [], ◌∷◌, length, length-append, refl, ap, arith}
 use mathlib.Core.Logic.{dite}
 use native.Mathlib.Decide.{dec_le}
-use Rattle.std.specs.Prelude.{map, unwrap_or}
+use Rattle.std.specs.Prelude.{unwrap_or}
 use Rattle.std.specs.Option.{option_to_list}
-use Rattle.number_counts.specs.Counts.{one, times}
+use Rattle.number_counts.specs.Counts.{times}
 use Rattle.number_counts.proofs.CountLaws.{one-same, times-append}
 use Rattle.search_core.specs.declared.note.CoreNote.{CoreNote}
 use Rattle.search_core.specs.declared.worker.Worker.{Worker}
-use Rattle.search_core.specs.Cores.{Core, fresh_worker, worker_at, tickets_given, held_tickets, noted_tickets, waiting_nodes, noted_nodes, part_nodes}
+use Rattle.search_core.specs.Cores.{Core, fresh_worker, worker_at, tickets_given, held_tickets, noted_tickets, waiting_nodes, noted_nodes}
 use Rattle.search_core.specs.Events.{ticket_in}
-use Rattle.search_core.specs.Good.{spent_one, spent_count, IsGood}
+use Rattle.search_core.specs.Good.{spent_count, IsGood}
 use Rattle.search_core.proofs.CoreLists.{times-measure, counted-at, parts-length}
 
 one-most : (b : Bool) → cond b 1 0 ≤ 1

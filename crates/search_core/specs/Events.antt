@@ -3,7 +3,6 @@ use Rattle.std.specs.Prelude.{ℕ, ℤ, ◌+◌, ◌*◌, Bool, true, false, ◌
 use Rattle.limits.specs.declared.TheConstants.{MOST_OWN_CUTS}
 use Rattle.search_core.specs.declared.event.Event.{Event}
 use Rattle.search_core.specs.declared.event.Event.TheVariants.{Take, Steal, Ticket, Split, Close, Offer, See, PushCut}
-use Rattle.search_core.specs.declared.note.CoreNote.{CoreNote}
 use Rattle.search_core.specs.declared.worker.Worker.{Worker}
 use Rattle.search_core.specs.Cores.{Core, worker_at, with_worker}
 

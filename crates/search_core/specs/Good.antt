@@ -1,5 +1,5 @@
 -- What holds of a core at all times.
-use Rattle.std.specs.Prelude.{◌≡◌, ℕ, ℤ, ◌+◌, ◌*◌, ◌<◌, ◌≤◌, ◌≤ℤ◌, ⊤, true, Bool, Option, Some, None, List, [], ◌∷◌, ◌++◌, length, if◌then◌else◌, Contains, ◌⊎◌}
+use Rattle.std.specs.Prelude.{◌≡◌, ℕ, ℤ, ◌+◌, ◌*◌, ◌<◌, ◌≤◌, ◌≤ℤ◌, ⊤, true, Option, Some, None, List, [], ◌∷◌, ◌++◌, length, if◌then◌else◌, Contains, ◌⊎◌}
 use Rattle.limits.specs.declared.TheConstants.{MOST_NODES, MOST_OWN_CUTS, MOST_WORKERS}
 use Rattle.number_counts.specs.Counts.{times, HasEachBelow}
 use Rattle.work_chains.specs.NodeChains.{NodeTask, AreNodeChains}

@@ -3,7 +3,7 @@ use Rattle.std.specs.Prelude.{◌≡◌, ℕ, ℤ, ◌+◌, ◌<◌, ◌≤◌, 
 use Rattle.limits.specs.declared.TheConstants.{MOST_NODES, MOST_WORKERS}
 use Rattle.work_chains.specs.NodeChains.{AreSettledNodes}
 use Rattle.search_core.specs.declared.event.Event.{Event}
-use Rattle.search_core.specs.declared.event.Event.TheVariants.{Take, Steal, Ticket, Split, Close, Offer, See, PushCut}
+use Rattle.search_core.specs.declared.event.Event.TheVariants.{Offer}
 use Rattle.search_core.specs.Cores.{Core, worker_at, first_core, tickets_given, node_notes, nodes_of}
 use Rattle.search_core.specs.Events.{is_enabled, after}
 use Rattle.search_core.specs.Good.{IsGood}

@@ -1,5 +1,3 @@
-use Rattle.search_core.proofs.CoreLists.{part-bound}
-use Rattle.search_core.proofs.Margins.{offer-either}
 use Rattle.search_core.proofs.RunLaws.{runs-are-good}
 use Rattle.search_core.proofs.laws.core_laws.Goals as goal
 

@@ -1,4 +1,4 @@
-use Rattle.std.proofs.Common.{◌≡◌, ◌-◌, ◌≤◌, ◌∷◌, None, Some, replicate}
+use Rattle.std.proofs.Common.{◌≡◌, ◌-◌, ◌∷◌, None, Some, replicate}
 use Rattle.search_core.specs.Cores.{fresh_worker}
 use Rattle.search_core.proofs.machine.fresh_workers.Given as goal
 
