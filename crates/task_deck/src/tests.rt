@@ -1,6 +1,10 @@
-use crate::{DoorPasses, Stolen, account, deck};
+ghost use Rattle.std.specs.Prelude.{◌≡◌, [], ◌∷◌, IfOk};
+ghost use Rattle.task_deck.specs.Decks.{deck_of, deck_behind, owner_view, pass_view, IsPassOfDeck};
+
+use crate::{Account, Door, DoorPass, DoorPasses, Owner, Stolen, account, deck};
 use slot_box::{SlotBox, Task, Terms};
 use std::alloc::Global;
+use std::process::Abort;
 use std::test::Fail;
 
 fn task(alloc: Global, id: u32) -> Result<Task, Fail> {
@@ -8,26 +12,63 @@ fn task(alloc: Global, id: u32) -> Result<Task, Fail> {
     Ok(Task::new(id, bx, 1, Terms::new(alloc)))
 }
 
-// The number of the node that a thief came away with.
-fn stolen_id(stolen: Stolen) -> Option<u32> {
-    match stolen {
+fn push(rt: &impl Abort, owner: &mut Owner, task: Task)
+    ensures deck { deck_of owner.new ≡ deck_of owner.old }
+    ensures passes { (owner_view owner.new).passes ≡ (owner_view owner.old).passes }
+{
+    let pushed = owner.push(task).is_ok();
+    assert!(rt; pushed);
+}
+
+fn pop(owner: &mut Owner) -> Option<u32>
+    ensures deck { deck_of owner.new ≡ deck_of owner.old }
+    ensures passes { (owner_view owner.new).passes ≡ (owner_view owner.old).passes }
+{
+    match owner.pop() {
+        Some(task) => Some(task.id()),
+        None => None,
+    }
+}
+
+fn steal(door: &Door, pass: &mut DoorPass) -> Option<u32>
+    requires { IsPassOfDeck (deck_behind door.now) pass.old }
+    ensures of { IsPassOfDeck (deck_behind door.now) pass.new }
+    ensures number { (pass_view pass.new).number ≡ (pass_view pass.old).number }
+{
+    match door.steal(pass) {
         Stolen::Got(task) => Some(task.id()),
         _ => None,
     }
+}
+
+fn alone(alloc: Global, pass: DoorPass) -> Result<DoorPasses, Fail>
+    ensures { IfOk result (λ passes. passes ≡ pass ∷ []) }
+{
+    let mut passes = DoorPasses::new(alloc);
+    if passes.push(pass).is_err() {
+        return Err(Fail::from("no memory"));
+    }
+    Ok(passes)
+}
+
+fn has_left(rt: &impl Abort, mut account: Account, ids: [u32; 2]) {
+    for id in ids {
+        assert_eq!(rt; account.left.pop().map(|task| task.id()), Some(id));
+    }
+    assert!(rt; account.left.pop().is_none());
 }
 
 #[test]
 fn what_is_stolen_and_popped_is_not_left(rt: HostRuntime) -> Result<(), Fail> {
     let (mut owner, door) = deck(rt.alloc())?;
     let mut pass = owner.pass()?;
-    assert!(rt; owner.push(task(rt.alloc(), 7)?).is_ok());
-    assert!(rt; owner.push(task(rt.alloc(), 8)?).is_ok());
-    assert_eq!(rt; stolen_id(door.steal(&mut pass)), Some(7));
-    assert_eq!(rt; owner.pop().map(|task| task.id()), Some(8));
-    assert!(rt; owner.pop().is_none());
-    assert!(rt; matches!(door.steal(&mut pass), Stolen::Empty));
-    let mut passes = DoorPasses::new(rt.alloc());
-    assert!(rt; passes.push(pass).is_ok());
+    push(&rt, &mut owner, task(rt.alloc(), 7)?);
+    push(&rt, &mut owner, task(rt.alloc(), 8)?);
+    assert_eq!(rt; steal(&door, &mut pass), Some(7));
+    assert_eq!(rt; pop(&mut owner), Some(8));
+    assert_eq!(rt; pop(&mut owner), None);
+    assert_eq!(rt; steal(&door, &mut pass), None);
+    let passes = alone(rt.alloc(), pass)?;
     let account = account(rt.alloc(), owner, door, passes)?;
     assert_eq!(rt; account.left.as_slice().len(), 0);
     Ok(())
@@ -36,13 +77,11 @@ fn what_is_stolen_and_popped_is_not_left(rt: HostRuntime) -> Result<(), Fail> {
 #[test]
 fn what_nobody_took_is_left_in_order(rt: HostRuntime) -> Result<(), Fail> {
     let (mut owner, door) = deck(rt.alloc())?;
-    for id in [3, 5, 4] {
-        assert!(rt; owner.push(task(rt.alloc(), id)?).is_ok());
-    }
-    assert_eq!(rt; owner.pop().map(|task| task.id()), Some(3));
-    let mut account = account(rt.alloc(), owner, door, DoorPasses::new(rt.alloc()))?;
-    assert_eq!(rt; account.left.pop().map(|task| task.id()), Some(4));
-    assert_eq!(rt; account.left.pop().map(|task| task.id()), Some(5));
-    assert!(rt; account.left.pop().is_none());
+    push(&rt, &mut owner, task(rt.alloc(), 3)?);
+    push(&rt, &mut owner, task(rt.alloc(), 5)?);
+    push(&rt, &mut owner, task(rt.alloc(), 4)?);
+    assert_eq!(rt; pop(&mut owner), Some(3));
+    let account = account(rt.alloc(), owner, door, DoorPasses::new(rt.alloc()))?;
+    has_left(&rt, account, [4, 5]);
     Ok(())
 }
