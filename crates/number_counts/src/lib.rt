@@ -2,7 +2,7 @@
 //!
 //! Tickets are drawn each once, and nodes of a search tree have each its own number: both are said of lists
 //! of numbers, in any order, by how often each number stands there. To the crates above this crate promises
-//! only these words and their laws; it has no code that runs.
+//! only these words and their laws; it has no code that runs. `proofs/Members` has laws of the members of any list.
 //!
 //! Begin with `specs/Counts.antt`.
 #![tactic(auto)]

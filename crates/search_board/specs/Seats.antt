@@ -85,6 +85,7 @@ pub record IsClosing (seat : SeatView) (tickets : ℕ) (best : Option ℤ) : Typ
 
 -- ---- from what the rule of the board keeps
 
+-- how such a board is put into one number, as a view has to be
 abbrev pub board_coded : Coded BoardView
 board_coded =
     code_by (TableId × ℕ) (coded× table_id_coded coded_ℕ) (λ v. (v.table, v.budget))
@@ -94,6 +95,7 @@ board_coded =
 abbrev pub SeatParts : Type 0
 SeatParts = BoardView × (List ℕ × (Option ℤ × (Option ℤ × (ℕ × (Option ℕ × (ℕ × ℕ))))))
 
+-- likewise a seat
 abbrev pub seat_coded : Coded SeatView
 seat_coded =
     code_by SeatParts

@@ -10,7 +10,7 @@ use Rattle.number_counts.specs.Counts.{times, HasEachBelow}
 use Rattle.number_counts.proofs.CountLaws.{one-same, one-other, times-append, each_below-next}
 use Rattle.work_chains.specs.NodeChains.{Nothing, NodeNote, AreNodeChains}
 use Rattle.work_chains.proofs.ChainLaws.{chains-take, chains-close, chains-divide}
-use Rattle.work_chains.proofs.Members.{among-last}
+use Rattle.number_counts.proofs.Members.{among-last}
 use Rattle.search_core.specs.declared.note.CoreNote.{CoreNote}
 use Rattle.search_core.specs.declared.worker.Worker.{Worker}
 use Rattle.search_core.specs.Cores.{Core, fresh_worker, worker_at, with_worker, tickets_given, held_tickets, noted_tickets, nodes_of, waiting_nodes, noted_nodes, part_nodes, notes_by, node_note, task_in}

@@ -12,7 +12,7 @@ use Rattle.number_counts.specs.Counts.{times, HasEachBelow}
 use Rattle.number_counts.proofs.CountLaws.{one-same, one-other, each_below-none}
 use Rattle.work_chains.specs.Chains.{Reaches, at_root, at_left, at_right, inner_note, ids_of, tickets_of, no_task, in_hand}
 use Rattle.work_chains.specs.NodeChains.{Nothing, NodeNote, AreNodeChains, AreSettledNodes}
-use Rattle.work_chains.proofs.Members.{among-none, among-first, among-rest, among-which, among-last, among-longer}
+use Rattle.number_counts.proofs.Members.{among-none, among-first, among-rest, among-which, among-last, among-longer}
 use Rattle.work_chains.proofs.NodeNumbers.{lefts, rights, nodes-below}
 use Rattle.search_core.specs.declared.note.CoreNote.{CoreNote}
 use Rattle.search_core.proofs.Margins.{at-most-trans, better-is}

@@ -8,6 +8,7 @@ use Rattle.crossbeam_deque.specs.Tasks.{Pushes, Takes, Forks, Merges, Finds, Fin
 use Rattle.crossbeam_deque.proofs.Lists.{at_set, set_here, set_else, at_longer}
 use Rattle.slot_box.specs.Tasks.{TaskParts}
 use Rattle.std.specs.Prelude.{Contains}
+use Rattle.number_counts.proofs.Members.{among-none, among-which}
 use Rattle.task_deck.specs.declared.hand.Taken.{Taken}
 use Rattle.task_deck.specs.Accounts.{tasks_of, taken_by}
 use Rattle.task_deck.specs.declared.hand.Hand.{Hand}
@@ -15,26 +16,6 @@ use Rattle.task_deck.specs.inside.Hands.{owner_hand, gone_hand, pass_hand, with_
 use Rattle.task_deck.specs.inside.Dealing.{IsKnown, Fits, IsDealt, IsNext, IsEmptyFor}
 
 -- ---- lists
-
-pub among-none : {X : Type 0} (x : X) → Contains [] x → ⊥
-among-none x there = absurd (let lt = there.1 in omega arith)
-
-pub among-first : {X : Type 0} (x : X) (xs : List X) → Contains (x ∷ xs) x
-among-first x xs = (0, omega arith, refl)
-
-pub among-rest : {X : Type 0} (y : X) (xs : List X) (x : X) → Contains xs x → Contains (y ∷ xs) x
-among-rest y xs x there = let lt = there.1 in (suc there.0, omega arith, there.2)
-
-pub among-which : {X : Type 0} (y : X) (xs : List X) (x : X) → Contains (y ∷ xs) x → (x ≡ y) ⊎ Contains xs x
-among-which y xs x (zero, lt, is) = inl (sym is)
-among-which y xs x (suc k, lt, is) = inr (k, omega arith, is)
-
-pub among-longer : {X : Type 0} (xs : List X) (y : X) (x : X) → Contains xs x → Contains (xs ++ y ∷ []) x
-among-longer [] y x there = absurd (among-none x there)
-among-longer (z ∷ zs) y x there = ⊎_elim
-    (λ (is : x ≡ z). (0, omega arith, sym is))
-    (λ rest. among-rest z (zs ++ y ∷ []) x (among-longer zs y x rest))
-    (among-which z zs x there)
 
 in_range : (l : List Hand) (i : ℕ) (a : Hand) → get_elem? l i ≡ some a → i < length l
 in_range [] i a e = absurd (some-ne-none a (sym e))

@@ -10,7 +10,7 @@ use Rattle.task_deck.specs.declared.hand.Hand.{Hand}
 use Rattle.task_deck.specs.inside.Dealing.{IsDealtOut}
 use Rattle.task_deck.specs.inside.Hands.{with_known, with_taken}
 use Rattle.task_deck.specs.inside.Returns.{known_of}
-use Rattle.task_deck.proofs.DealLaws.{among-none, among-which, among-first, among-rest}
+use Rattle.number_counts.proofs.Members.{among-none, among-which, among-first, among-rest}
 
 -- what is known of a pass
 abbrev pub known_pass : DoorPass → Taken

@@ -1,4 +1,3 @@
 pub mod ChainLaws
-pub mod Members
 pub mod NodeNumbers
 pub mod SettledLaw

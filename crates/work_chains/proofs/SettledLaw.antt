@@ -11,7 +11,7 @@ use Rattle.number_counts.specs.Counts.{times, HasEachBelow}
 use Rattle.work_chains.specs.Chains.{Noted, inner_note, leaf_note, ids_of, tickets_of, task_ids, AreChains, no_task, in_hand, closes, divides, Reaches, at_root, at_left, at_right, AreSettled, TakesAllHanded}
 use Rattle.work_chains.specs.BoxChains.{DividesBox}
 use Rattle.work_chains.specs.Laws.{ChainsSettle}
-use Rattle.work_chains.proofs.Members.{among-none, among-first, among-rest, among-which}
+use Rattle.number_counts.proofs.Members.{among-none, among-first, among-rest, among-which}
 use Rattle.work_chains.proofs.NodeNumbers.{lefts, rights, nodes-below}
 
 module _ {B S : Type 0} (Divides : B → S → Type 0) (left right : B → S → B) where

@@ -5,7 +5,7 @@ use Rattle.crossbeam_deque.specs.Handles.{view, worker_view}
 use Rattle.task_deck.specs.Decks.{DeckId, IsPassOfDeck}
 use Rattle.task_deck.specs.declared.ends.DoorPass.{DoorPass}
 use Rattle.task_deck.specs.declared.hand.Hand.{Hand}
-use Rattle.task_deck.proofs.DealLaws.{among-longer}
+use Rattle.number_counts.proofs.Members.{among-longer}
 use Rattle.task_deck.proofs.ReturnLaws.{known-step, view-step}
 use Rattle.task_deck.proofs.accounts.take_back_all.Goals as goal
 
