@@ -77,18 +77,27 @@ below_none x (suc n) le = let r = below_none x n (omega arith) in let o = one-ot
 
 -- ---- who offered the most
 
-reached_at : (views : List Known) (best : ℕ) (id : ℕ) (v : Known) → get_elem? views id ≡ some v → (w : Known) → (v.offer ≡ best → w.offer ≡ best) → Reached best views → Reached best (set views id w)
+reached_at : (views : List Known) (best : ℕ) (id : ℕ) (v : Known) → get_elem? views id ≡ some v → (w : Known) → (v.offer ≡ best → w.offer ≡ best)
+    → Reached best views → Reached best (set views id w)
 reached_at views best id v at w same r = dite (ℕ_discrete r.0 id)
-    (λ e. (id, w, set_here views id w (in_range views id v at), same (ap (λ (u : Known). u.offer) (some-injective v r.1 (sym at ∙ sym (ap (get_elem? views) e) ∙ r.2)) ∙ r.3)))
+    (λ e. (
+      id,
+      w,
+      set_here views id w (in_range views id v at),
+      same (ap (λ (u : Known). u.offer) (some-injective v r.1 (sym at
+          ∙ sym (ap (get_elem? views) e) ∙ r.2)) ∙ r.3),
+    ))
     (λ ne. (r.0, r.1, set_else views id r.0 w ne ∙ r.2, r.3))
 
 -- ---- one view has all seats
 
-total_none : (f g : Known → ℕ) (views : List Known) → total g views ≡ 0 → ((j : ℕ) (u : Known) → get_elem? views j ≡ some u → g u ≡ 0 → f u ≡ 0) → total f views ≡ 0
+total_none : (f g : Known → ℕ) (views : List Known) → total g views ≡ 0 → ((j : ℕ) (u : Known) → get_elem? views j ≡ some u → g u ≡ 0 → f u ≡ 0)
+    → total f views ≡ 0
 total_none f g [] z h = refl
 total_none f g (x ∷ xs) z h = let a = h 0 x refl (omega arith) in let r = total_none f g xs (omega arith) (λ j u e. h (suc j) u e) in omega arith
 
-total_rest : (f g : Known → ℕ) (views : List Known) (id : ℕ) (v : Known) → get_elem? views id ≡ some v → total g views ≡ g v → ((j : ℕ) (u : Known) → get_elem? views j ≡ some u → g u ≡ 0 → f u ≡ 0) → total f views ≡ f v
+total_rest : (f g : Known → ℕ) (views : List Known) (id : ℕ) (v : Known) → get_elem? views id ≡ some v → total g views ≡ g v → ((j : ℕ) (u : Known)
+    → get_elem? views j ≡ some u → g u ≡ 0 → f u ≡ 0) → total f views ≡ f v
 total_rest f g [] id v at z h = absurd (some-ne-none v (sym at))
 total_rest f g (x ∷ xs) zero v at z h = let is = some-injective x v at in let a : g x ≡ g v = ap g is in let b : f x ≡ f v = ap f is in
     let r = total_none f g xs (omega arith) (λ j u e. h (suc j) u e) in omega arith
@@ -160,13 +169,22 @@ module _ (budget counter best : ℕ) (views : List Known) (h : Holds budget coun
           drawn = suc counter;
           under = (omega arith, omega arith);
           full = inl refl;
-          once = λ x. let t = total_set (λ u. times x u.tickets) views id v w at in let o = h.once x in let b : below x h.drawn ≡ below x counter = ap (below x) d in let n = times_snoc x v.tickets counter in omega arith;
-          count = (let t = total_set (λ u. length u.tickets) views id v w at in let o = h.count in let n = length-append v.tickets (counter ∷ []) in omega arith);
+          once = λ x. let t = total_set (λ u. times x u.tickets) views id v w at in let o = h.once x in
+              let b : below x h.drawn ≡ below x counter = ap (below x) d in let n = times_snoc x v.tickets counter in omega arith;
+          count = (let t = total_set (λ u. length u.tickets) views id v w at in let o = h.count in
+              let n = length-append v.tickets (counter ∷ []) in omega arith);
           bounded = omega arith;
           seats = (let t = total_set (λ u. u.may) views id v w at in let o = h.seats in omega arith);
           standing = (let t = total_set (λ u. u.stands) views id v w at in let o = h.standing in omega arith);
           each = all_set (Fits budget (suc counter) best) views id w
-              (record { budgets = mine.budgets; alive = mine.alive; left = λ e. gone_not e; past = λ e. (let p = mine.past e in omega arith); saw = mine.saw; offered = mine.offered })
+              (record {
+                budgets = mine.budgets;
+                alive = mine.alive;
+                left = λ e. gone_not e;
+                past = λ e. (let p = mine.past e in omega arith);
+                saw = mine.saw;
+                offered = mine.offered;
+              })
               (λ j u ne e. later u (h.each j u e));
           reached = ⊎_elim (λ z. inl z) (λ r. inr (reached_at views best id v at w (λ e. e) r)) h.reached;
         }
@@ -174,7 +192,9 @@ module _ (budget counter best : ℕ) (views : List Known) (h : Holds budget coun
     -- the number is new to the seat, which has fewer tickets than the budget
     pub is_new : counter < budget → (length v.tickets < budget) × (times counter v.tickets ≡ 0)
     is_new lt = let un = h.under in let d : h.drawn ≡ counter = ⊎_elim (λ e. e) (λ (e : h.drawn ≡ budget). absurd (omega arith)) h.full in
-        let a = total_at (λ u. length u.tickets) views id v at in let b = h.count in let c = total_at (λ u. times counter u.tickets) views id v at in let o = h.once counter in let n = below_none counter h.drawn (omega arith) in (omega arith, omega arith)
+        let a = total_at (λ u. length u.tickets) views id v at in let b = h.count in
+        let c = total_at (λ u. times counter u.tickets) views id v at in let o = h.once counter in
+        let n = below_none counter h.drawn (omega arith) in (omega arith, omega arith)
 
     pub refused : budget ≤ counter → told_one v.told ≡ 0 → Holds budget (suc counter) best (set views id (with_spent v counter))
     refused le free = let w : Known = with_spent v counter in let long = length-set views id w in let un = h.under in record {
@@ -195,7 +215,8 @@ module _ (budget counter best : ℕ) (views : List Known) (h : Holds budget coun
     }
 
     higher : (k : ℕ) (u : Known) → Fits budget counter best u → Fits budget counter (max best k) u
-    higher k u f = let m = le-max_left best k in let a = f.saw in let b = f.offered in record { budgets = f.budgets; alive = f.alive; left = f.left; past = f.past; saw = omega arith; offered = omega arith }
+    higher k u f = let m = le-max_left best k in let a = f.saw in let b = f.offered in
+        record { budgets = f.budgets; alive = f.alive; left = f.left; past = f.past; saw = omega arith; offered = omega arith }
 
     pub offered : (k : ℕ) → k ≤ most_word → Holds budget counter (max best k) (set views id (with_offer v k))
     offered k fits = let w : Known = with_offer v k in let long = length-set views id w in let a = mine.offered in let b = mine.saw in record {
@@ -220,54 +241,91 @@ module _ (budget counter best : ℕ) (views : List Known) (h : Holds budget coun
     }
 
     pub seated : 0 < v.may → Holds budget counter best (set views id (with_seat v) ++ new_seat v ∷ [])
-    seated some_left = let w : Known = with_seat v in let r : Known = new_seat v in let vs : List Known = set views id w in let long = length-set views id w in let longer = length-append vs (r ∷ []) in record {
-      small = h.small;
-      margins = h.margins;
-      drawn = h.drawn;
-      under = h.under;
-      full = h.full;
-      once = λ x. let t = total_set (λ u. times x u.tickets) views id v w at in let o = h.once x in let z = total_snoc (λ u. times x u.tickets) vs r in omega arith;
-      count = (let t = total_set (λ u. length u.tickets) views id v w at in let o = h.count in let z = total_snoc (λ u. length u.tickets) vs r in omega arith);
-      bounded = (let t = total_set idle_one views id v w at in let o = h.bounded in let z = total_snoc idle_one vs r in omega arith);
-      seats = (let t = total_set (λ u. u.may) views id v w at in let o = h.seats in let z = total_snoc (λ u. u.may) vs r in omega arith);
-      standing = (let t = total_set (λ u. u.stands) views id v w at in let o = h.standing in let z = total_snoc (λ u. u.stands) vs r in omega arith);
-      each = λ j u e. ⊎_elim
-          (λ x. all_set (Fits budget counter best) views id w
-          (record { budgets = mine.budgets; alive = mine.alive; left = λ e. gone_not e; past = mine.past; saw = mine.saw; offered = mine.offered })
-          (λ j u ne e. h.each j u e)
-          j u x)
-          (λ (x : (j ≡ length vs) × (r ≡ u)). subst (Fits budget counter best) x.1
-          (record { budgets = λ _. mine.budgets here; alive = λ _. omega arith; left = λ e. absurd (true≢false (sym e)); past = λ e. absurd (omega arith); saw = mine.saw; offered = omega arith }))
-          (at_end vs r u j e);
-      reached = ⊎_elim (λ z. inl z) (λ q. let p = reached_at views best id v at w (λ e. e) q in inr (p.0, p.1, longer_at vs (r ∷ []) p.0 p.1 p.2, p.3)) h.reached;
-    }
-
-    pub joins : (other : ℕ) (u : Known) → other ≢ id → get_elem? (set views id (joined v u)) other ≡ some u → u.gone ≡ false → Holds budget counter best (set (set views id (joined v u)) other gone_view)
-    joins other u two at' there = let w : Known = joined v u in let vs : List Known = set views id w in let long = length-set views id w in let long' = length-set vs other gone_view in
-        let was : get_elem? views other ≡ some u = sym (set_else views id other w two) ∙ at' in let theirs = h.each other u was in
-        let a = mine.saw in let b = theirs.saw in let c = mine.offered in let d = theirs.offered in
-        let at_w : get_elem? (set vs other gone_view) id ≡ some w = set_else vs other id gone_view (λ e. two (sym e)) ∙ set_here views id w (in_range views id v at) in record {
+    seated some_left = let w : Known = with_seat v in let r : Known = new_seat v in let vs : List Known = set views id w in
+        let long = length-set views id w in let longer = length-append vs (r ∷ []) in record {
           small = h.small;
           margins = h.margins;
           drawn = h.drawn;
           under = h.under;
           full = h.full;
-          once = λ x. let t = total_set (λ u. times x u.tickets) views id v w at in let t' = total_set (λ u. times x u.tickets) vs other u gone_view at' in let o = h.once x in let z = times-append x v.tickets u.tickets in omega arith;
-          count = (let t = total_set (λ u. length u.tickets) views id v w at in let t' = total_set (λ u. length u.tickets) vs other u gone_view at' in let o = h.count in let z = length-append v.tickets u.tickets in omega arith);
-          bounded = (let t = total_set idle_one views id v w at in let t' = total_set idle_one vs other u gone_view at' in let o = h.bounded in let x = idle_here v here in let y = idle_here u there in let z = idle_here w here in let k = told_first v.told u.told in omega arith);
-          seats = (let t = total_set (λ u. u.may) views id v w at in let t' = total_set (λ u. u.may) vs other u gone_view at' in let o = h.seats in omega arith);
-          standing = (let t = total_set (λ u. u.stands) views id v w at in let t' = total_set (λ u. u.stands) vs other u gone_view at' in let o = h.standing in omega arith);
+          once = λ x. let t = total_set (λ u. times x u.tickets) views id v w at in let o = h.once x in
+              let z = total_snoc (λ u. times x u.tickets) vs r in omega arith;
+          count = (let t = total_set (λ u. length u.tickets) views id v w at in let o = h.count in let z = total_snoc (λ u. length u.tickets) vs r in omega arith);
+          bounded = (let t = total_set idle_one views id v w at in let o = h.bounded in let z = total_snoc idle_one vs r in omega arith);
+          seats = (let t = total_set (λ u. u.may) views id v w at in let o = h.seats in let z = total_snoc (λ u. u.may) vs r in omega arith);
+          standing = (let t = total_set (λ u. u.stands) views id v w at in let o = h.standing in let z = total_snoc (λ u. u.stands) vs r in omega arith);
+          each = λ j u e. ⊎_elim
+              (λ x. all_set (Fits budget counter best) views id w
+              (record { budgets = mine.budgets; alive = mine.alive; left = λ e. gone_not e; past = mine.past; saw = mine.saw; offered = mine.offered })
+              (λ j u ne e. h.each j u e)
+              j u x)
+              (λ (x : (j ≡ length vs) × (r ≡ u)). subst (Fits budget counter best) x.1
+              (record {
+                budgets = λ _. mine.budgets here;
+                alive = λ _. omega arith;
+                left = λ e. absurd (true≢false (sym e));
+                past = λ e. absurd (omega arith);
+                saw = mine.saw;
+                offered = omega arith;
+              }))
+              (at_end vs r u j e);
+          reached = ⊎_elim (λ z. inl z) (λ q. let p = reached_at views best id v at w
+              (λ e. e) q in inr (p.0, p.1, longer_at vs (r ∷ []) p.0 p.1 p.2, p.3)) h.reached;
+        }
+
+    pub joins : (other : ℕ) (u : Known) → other ≢ id → get_elem? (set views id (joined v u)) other ≡ some u → u.gone ≡ false
+        → Holds budget counter best (set (set views id (joined v u)) other gone_view)
+    joins other u two at' there = let w : Known = joined v u in let vs : List Known = set views id w in let long = length-set views id w in
+        let long' = length-set vs other gone_view in
+        let was : get_elem? views other ≡ some u = sym (set_else views id other w two) ∙ at' in let theirs = h.each other u was in
+        let a = mine.saw in let b = theirs.saw in let c = mine.offered in let d = theirs.offered in
+        let at_w : get_elem? (set vs other gone_view) id ≡ some w = set_else vs other id gone_view (λ e. two (sym e))
+        ∙ set_here views id w (in_range views id v at) in record {
+          small = h.small;
+          margins = h.margins;
+          drawn = h.drawn;
+          under = h.under;
+          full = h.full;
+          once = λ x. let t = total_set (λ u. times x u.tickets) views id v w at in
+              let t' = total_set (λ u. times x u.tickets) vs other u gone_view at' in let o = h.once x in
+              let z = times-append x v.tickets u.tickets in omega arith;
+          count = (let t = total_set (λ u. length u.tickets) views id v w at in
+              let t' = total_set (λ u. length u.tickets) vs other u gone_view at' in let o = h.count in
+              let z = length-append v.tickets u.tickets in omega arith);
+          bounded = (let t = total_set idle_one views id v w at in let t' = total_set idle_one vs other u gone_view at' in
+              let o = h.bounded in let x = idle_here v here in let y = idle_here u there in let z = idle_here w here in
+              let k = told_first v.told u.told in omega arith);
+          seats = (let t = total_set (λ u. u.may) views id v w at in let t' = total_set (λ u. u.may) vs other u gone_view at' in
+              let o = h.seats in omega arith);
+          standing = (let t = total_set (λ u. u.stands) views id v w at in let t' = total_set (λ u. u.stands) vs other u gone_view at' in
+              let o = h.standing in omega arith);
           each = all_set (Fits budget counter best) vs other gone_view
-              (record { budgets = λ e. absurd (true≢false e); alive = λ e. absurd (true≢false e); left = λ _. refl; past = λ e. absurd (omega arith); saw = omega arith; offered = omega arith })
+              (record {
+                budgets = λ e. absurd (true≢false e);
+                alive = λ e. absurd (true≢false e);
+                left = λ _. refl;
+                past = λ e. absurd (omega arith);
+                saw = omega arith;
+                offered = omega arith;
+              })
               (λ j y ne e. all_set (Fits budget counter best) views id w
-              (record { budgets = mine.budgets; alive = λ e. (let p = mine.alive e in omega arith); left = λ e. gone_not e; past = λ e. ⊎_elim mine.past theirs.past (told_which v.told u.told e); saw = max-le a b; offered = max-le c d })
+              (record {
+                budgets = mine.budgets;
+                alive = λ e. (let p = mine.alive e in omega arith);
+                left = λ e. gone_not e;
+                past = λ e. ⊎_elim mine.past theirs.past (told_which v.told u.told e);
+                saw = max-le a b;
+                offered = max-le c d;
+              })
               (λ j y ne e. h.each j y e)
               j y e);
           reached = ⊎_elim (λ z. inl z)
               (λ q. dite (ℕ_discrete q.0 other)
-              (λ e. let same : q.1.offer ≡ u.offer = ap (λ (y : Known). y.offer) (some-injective q.1 u (sym q.2 ∙ ap (get_elem? views) e ∙ was)) in let is = q.3 in inr (id, w, at_w, omega arith))
+              (λ e. let same : q.1.offer ≡ u.offer = ap (λ (y : Known). y.offer) (some-injective q.1 u (sym q.2 ∙ ap (get_elem? views) e
+              ∙ was)) in let is = q.3 in inr (id, w, at_w, omega arith))
               (λ ne. dite (ℕ_discrete q.0 id)
-              (λ e. let same : q.1.offer ≡ v.offer = ap (λ (y : Known). y.offer) (some-injective q.1 v (sym q.2 ∙ ap (get_elem? views) e ∙ at)) in let is = q.3 in inr (id, w, at_w, omega arith))
+              (λ e. let same : q.1.offer ≡ v.offer = ap (λ (y : Known). y.offer) (some-injective q.1 v (sym q.2 ∙ ap (get_elem? views) e
+              ∙ at)) in let is = q.3 in inr (id, w, at_w, omega arith))
               (λ ne'. inr (q.0, q.1, set_else vs other q.0 gone_view ne ∙ set_else views id q.0 w ne' ∙ q.2, q.3))))
               h.reached;
         }
@@ -290,7 +348,8 @@ below-some x (suc n) lt = dite (ℕ_discrete x n) (λ e. let r = below_none x n 
 each-below : (n : ℕ) (xs : List ℕ) → ((x : ℕ) → times x xs ≡ below x n) → HasEachBelow n xs
 each-below n xs same = record { once = λ x lt. same x ∙ below-some x n lt; no_other = λ x le. same x ∙ below_none x n le }
 
-module _ (budget counter best : ℕ) (views : List Known) (h : Holds budget counter best views) (id : ℕ) (v : Known) (at : get_elem? views id ≡ some v) (whole : v.stands + v.may ≡ 32) where
+module _ (budget counter best : ℕ) (views : List Known) (h : Holds budget counter best views) (id : ℕ) (v : Known)
+    (at : get_elem? views id ≡ some v) (whole : v.stands + v.may ≡ 32) where
   abbrev seats_of : Known → ℕ
   seats_of u = u.stands + u.may
 
@@ -298,14 +357,18 @@ module _ (budget counter best : ℕ) (views : List Known) (h : Holds budget coun
   all_here = let a = total_add (λ u. u.stands) (λ u. u.may) views in let b = h.seats in let c = h.standing in omega arith
 
   others : (f : Known → ℕ) → f gone_view ≡ 0 → (j : ℕ) (u : Known) → get_elem? views j ≡ some u → seats_of u ≡ 0 → f u ≡ 0
-  others f z j u e none_ = let fits = h.each j u e in ⊎_elim (λ yes. ap f (fits.left yes) ∙ z) (λ no. let p = fits.alive no in absurd (omega arith)) (bool_cases u.gone)
+  others f z j u e none_ = let fits = h.each j u e in ⊎_elim (λ yes. ap f (fits.left yes)
+      ∙ z) (λ no. let p = fits.alive no in absurd (omega arith)) (bool_cases u.gone)
 
   pub ends : (tickets : ℕ) → (tickets ≤ counter) × (tickets ≤ budget) → (tickets ≡ counter) ⊎ (tickets ≡ budget) → IsEnd budget tickets best v
   ends tickets under full = let un = h.under in
-      let d : h.drawn ≡ tickets = ⊎_elim (λ (a : h.drawn ≡ counter). ⊎_elim (λ (b : tickets ≡ counter). a ∙ sym b) (λ (b : tickets ≡ budget). omega arith) full) (λ (a : h.drawn ≡ budget). ⊎_elim (λ (b : tickets ≡ counter). omega arith) (λ (b : tickets ≡ budget). a ∙ sym b) full) h.full in
+      let d : h.drawn ≡ tickets = ⊎_elim (λ (a : h.drawn ≡ counter). ⊎_elim (λ (b : tickets ≡ counter). a
+      ∙ sym b) (λ (b : tickets ≡ budget). omega arith) full) (λ (a : h.drawn ≡ budget). ⊎_elim (λ (b : tickets ≡ counter). omega arith)
+      (λ (b : tickets ≡ budget). a ∙ sym b) full) h.full in
       let most : total (λ u. u.offer) views ≡ v.offer = total_rest (λ u. u.offer) seats_of views id v at all_here (others (λ u. u.offer) refl) in
       let mine = h.each id v at in let o = mine.offered in record {
-        each = each-below tickets v.tickets (λ x. sym (total_rest (λ u. times x u.tickets) seats_of views id v at all_here (others (λ u. times x u.tickets) refl)) ∙ h.once x ∙ ap (below x) d);
+        each = each-below tickets v.tickets (λ x. sym (total_rest (λ u. times x u.tickets) seats_of views id v at all_here (others
+            (λ u. times x u.tickets) refl)) ∙ h.once x ∙ ap (below x) d);
         within = under.1;
         told = λ e. (let p = mine.past e in ⊎_elim (λ (b : tickets ≡ counter). let q = under.1 in absurd (omega arith)) (λ b. b) full);
         offered = ⊎_elim (λ (z : best ≡ 0). omega arith) (λ q. let r = total_at (λ u. u.offer) views q.0 q.1 q.2 in let is = q.3 in omega arith) h.reached;
@@ -329,57 +392,92 @@ module _ (budget : ℕ) (s : St) (k : IsKept budget s) (slots : List (ℕ × Uni
   counted : (n id : ℕ) (w : Known) → Holds budget n (get_or s.words 1 0) (set s.views id w) → IsKept budget (stepped s 0 n id slots w keeps)
   counted n id w h = let wide = k.words in record {
     words = length-set s.words 0 n ∙ wide;
-    holds = subst (λ (z : ℕ × ℕ). Holds budget z.0 z.1 (set s.views id w)) (λ i. (sym (get_or-set_same s.words 0 n 0 (omega arith)) i, sym (other_word s.words 0 1 n (λ e. omega arith)) i)) h;
+    holds = subst (λ (z : ℕ × ℕ). Holds budget z.0 z.1 (set s.views id w))
+        (λ i. (sym (get_or-set_same s.words 0 n 0 (omega arith)) i, sym (other_word s.words 0 1 n (λ e. omega arith)) i)) h;
   }
 
   bettered : (n id : ℕ) (w : Known) → Holds budget (get_or s.words 0 0) n (set s.views id w) → IsKept budget (stepped s 1 n id slots w keeps)
   bettered n id w h = let wide = k.words in record {
     words = length-set s.words 1 n ∙ wide;
-    holds = subst (λ (z : ℕ × ℕ). Holds budget z.0 z.1 (set s.views id w)) (λ i. (sym (other_word s.words 1 0 n (λ e. omega arith)) i, sym (get_or-set_same s.words 1 n 0 (omega arith)) i)) h;
+    holds = subst (λ (z : ℕ × ℕ). Holds budget z.0 z.1 (set s.views id w)) (λ i. (
+      sym (other_word s.words 1 0 n
+          (λ e. omega arith)) i,
+      sym (get_or-set_same s.words 1 n 0 (omega arith)) i,
+    )) h;
   }
 
-pub draws : (budget slots id : ℕ) (me : Sitter) → me.0.gone ≡ false → told_one me.0.told ≡ 0 → Allows (IsKept budget) slots id me 0 (λ n. (n + 1) % 2 ^ 64) (Draws (step slots 0 1 0 none) me)
-draws budget slots id me here free s k _ at _ = let counter : ℕ = get_or s.words 0 0 in let best : ℕ = get_or s.words 1 0 in let h = k.holds in let v : Known = me.0 in
-    let room : counter < 18446744073709551615 = roomy budget counter best s.views h in let is : suc counter ≡ (counter + 1) % 18446744073709551616 = omega arith in
+pub draws : (budget slots id : ℕ) (me : Sitter) → me.0.gone ≡ false → told_one me.0.told ≡ 0
+    → Allows (IsKept budget) slots id me 0 (λ n. (n + 1) % 2 ^ 64) (Draws (step slots 0 1 0 none) me)
+draws budget slots id me here free s k _ at _ = let counter : ℕ = get_or s.words 0 0 in let best : ℕ = get_or s.words 1 0 in
+    let h = k.holds in let v : Known = me.0 in
+    let room : counter < 18446744073709551615 = roomy budget counter best s.views h in
+    let is : suc counter ≡ (counter + 1) % 18446744073709551616 = omega arith in
     let b = (h.each id v at).budgets here in dite (dec_le (suc counter) budget)
     (λ (lt : counter < budget). let w : Known = with_ticket v counter in let new = is_new budget counter best s.views h id v at here lt in (
       w,
       keeps,
       tt,
-      subst (λ (z : ℕ). IsKept budget (stepped s 0 z id me.1 w keeps)) is (counted budget s k me.1 (suc counter) id w (drew budget counter best s.views h id v at here lt)),
+      subst (λ (z : ℕ). IsKept budget (stepped s 0 z id me.1 w keeps)) is (counted budget s k me.1 (suc counter) id w
+          (drew budget counter best s.views h id v at here lt)),
       record { slots = refl; given = λ _. (refl, subst (λ (z : ℕ). length v.tickets < z) (sym b) new.0, new.1); refused = λ le. absurd (omega arith) },
     ))
     (λ ge. let w : Known = with_spent v counter in (
       w,
       keeps,
       tt,
-      subst (λ (z : ℕ). IsKept budget (stepped s 0 z id me.1 w keeps)) is (counted budget s k me.1 (suc counter) id w (refused budget counter best s.views h id v at here (omega arith) free)),
+      subst (λ (z : ℕ). IsKept budget (stepped s 0 z id me.1 w keeps)) is (counted budget s k me.1 (suc counter) id w
+          (refused budget counter best s.views h id v at here (omega arith) free)),
       record { slots = refl; given = λ lt. absurd (ge (omega arith)); refused = λ _. refl },
     ))
 
-pub offers : (budget slots id : ℕ) (me : Sitter) (k : ℕ) → k ≤ most_word → me.0.gone ≡ false → Allows (IsKept budget) slots id me 1 (λ n. max n k) (Offers (step slots 1 k 0 none) me)
-offers budget slots id me k fits here s kept _ at _ = let counter : ℕ = get_or s.words 0 0 in let best : ℕ = get_or s.words 1 0 in let w : Known = with_offer me.0 k in
+pub offers : (budget slots id : ℕ) (me : Sitter) (k : ℕ) → k ≤ most_word → me.0.gone ≡ false
+    → Allows (IsKept budget) slots id me 1 (λ n. max n k) (Offers (step slots 1 k 0 none) me)
+offers budget slots id me k fits here s kept _ at _ = let counter : ℕ = get_or s.words 0 0 in let best : ℕ = get_or s.words 1 0 in
+    let w : Known = with_offer me.0 k in
     (w, keeps, tt, bettered budget s kept me.1 (max best k) id w (offered budget counter best s.views kept.holds id me.0 at here k fits), (refl, refl))
 
 pub looks : (budget slots id : ℕ) (me : Sitter) → me.0.gone ≡ false → Allows (IsKept budget) slots id me 1 (λ n. n) (Looks (step slots 1 0 0 none) me)
-looks budget slots id me here s kept _ at _ = let counter : ℕ = get_or s.words 0 0 in let best : ℕ = get_or s.words 1 0 in let w : Known = with_look me.0 best in let f = kept.holds.each id me.0 at in
-    (w, keeps, tt, bettered budget s kept me.1 best id w (looked budget counter best s.views kept.holds id me.0 at here), record { slots = refl; view = refl; seen = f.saw; offer = f.offered; small = kept.holds.margins })
+looks budget slots id me here s kept _ at _ = let counter : ℕ = get_or s.words 0 0 in let best : ℕ = get_or s.words 1 0 in
+    let w : Known = with_look me.0 best in let f = kept.holds.each id me.0 at in (
+      w,
+      keeps,
+      tt,
+      bettered budget s kept me.1 best id w (looked budget counter best s.views kept.holds id me.0 at here),
+      record {
+        slots = refl;
+        view = refl;
+        seen = f.saw;
+        offer = f.offered;
+        small = kept.holds.margins;
+      },
+    )
 
 pub splits : (budget id : ℕ) (v : Known) → v.gone ≡ false → 0 < v.may → Splits (IsKept budget) id v (with_seat v) (new_seat v)
-splits budget id v here some_left s k at = record { words = k.words; holds = seated budget (get_or s.words 0 0) (get_or s.words 1 0) s.views k.holds id v at here some_left }
+splits budget id v here some_left s k at = record {
+  words = k.words;
+  holds = seated budget (get_or s.words 0 0) (get_or s.words 1 0) s.views k.holds id v at here some_left;
+}
 
 pub merges : (budget id : ℕ) (v : Known) (other : ℕ) (u : Known) → v.gone ≡ false → u.gone ≡ false → Joins (IsKept budget) id v other u (joined v u) gone_view
-merges budget id v other u here there s k at two at' = record { words = k.words; holds = joins budget (get_or s.words 0 0) (get_or s.words 1 0) s.views k.holds id v at here other u two at' there }
+merges budget id v other u here there s k at two at' = record {
+  words = k.words;
+  holds = joins budget (get_or s.words 0 0) (get_or s.words 1 0) s.views k.holds id v at here other u two at' there;
+}
 
 index_of : (l : List ℕ) (i n : ℕ) → get_elem? l i ≡ some n → get_or l i 0 ≡ n
 index_of [] i n e = absurd (some-ne-none n (sym e))
 index_of (x ∷ xs) zero n e = some-injective x n e
 index_of (x ∷ xs) (suc i) n e = index_of xs i n e
 
-pub closes : (budget id : ℕ) (v : Known) (words : List ℕ) (slots : List (Unit {0})) (counter best tickets : ℕ) → Final (Seen (IsKept budget) id v) words slots → get_elem? words 0 ≡ some counter → get_elem? words 1 ≡ some best
+pub closes : (budget id : ℕ) (v : Known) (words : List ℕ) (slots : List (Unit {0})) (counter best tickets : ℕ)
+    → Final (Seen (IsKept budget) id v) words slots → get_elem? words 0 ≡ some counter → get_elem? words 1 ≡ some best
     → v.stands + v.may ≡ 32 → (tickets ≤ counter) × (tickets ≤ budget) → (tickets ≡ counter) ⊎ (tickets ≡ budget) → IsEnd budget tickets best v
 closes budget id v words slots counter best tickets f first second whole under full = let s = f.0 in let k = f.1.0 in
-    let h : Holds budget counter best s.views = subst (λ (z : ℕ × ℕ). Holds budget z.0 z.1 s.views) (λ i. ((ap (λ (l : List ℕ). get_or l 0 0) f.2 ∙ index_of words 0 counter first) i, (ap (λ (l : List ℕ). get_or l 1 0) f.2 ∙ index_of words 1 best second) i)) k.holds in
+    let h : Holds budget counter best s.views = subst (λ (z : ℕ × ℕ). Holds budget z.0 z.1 s.views) (λ i. (
+      (ap (λ (l : List ℕ). get_or l 0 0) f.2
+          ∙ index_of words 0 counter first) i,
+      (ap (λ (l : List ℕ). get_or l 1 0) f.2 ∙ index_of words 1 best second) i,
+    )) k.holds in
     ends budget counter best s.views h id v f.1.1 whole tickets under full
 
 -- a hint may be read or written in any way
@@ -403,5 +501,6 @@ told-none : (told : Option ℕ) → told ≡ None → told_one told ≡ 0
 told-none told is = ap told_one is
 
 -- a seat that was not told asks
-pub asks : (budget slots id : ℕ) (me : Sitter) → me.0.gone ≡ false → me.0.told ≡ None → Allows (IsKept budget) slots id me 0 (λ n. (n + 1) % 2 ^ 64) (Draws (step slots 0 1 0 none) me)
+pub asks : (budget slots id : ℕ) (me : Sitter) → me.0.gone ≡ false → me.0.told ≡ None
+    → Allows (IsKept budget) slots id me 0 (λ n. (n + 1) % 2 ^ 64) (Draws (step slots 0 1 0 none) me)
 asks budget slots id me here free = draws budget slots id me here (told-none me.0.told free)

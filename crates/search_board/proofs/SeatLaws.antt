@@ -11,7 +11,10 @@ use Rattle.search_board.proofs.BoardSteps.{IsEnd}
 use Rattle.search_board.proofs.MarginLaws.{greater-word, at-most-word}
 
 pub view-joined : (table other : TableId) (v u : Known) → seat_view table (joined v u) ≡ joined_seat (seat_view table v) (seat_view other u)
-view-joined table other v u = λ i. record (joined_seat (seat_view table v) (seat_view other u)) { offer = greater-word v.offer u.offer i; seen = greater-word v.seen u.seen i }
+view-joined table other v u = λ i. record (joined_seat (seat_view table v) (seat_view other u)) {
+  offer = greater-word v.offer u.offer i;
+  seen = greater-word v.seen u.seen i;
+}
 
 told-some : (told : Option ℕ) (number : ℕ) → told ≡ Some number → told_one told ≡ 1
 told-some told number is = ap told_one is

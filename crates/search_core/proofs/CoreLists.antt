@@ -88,7 +88,8 @@ pub notes-by-last : (w : ℕ) (notes : List CoreNote) (note : CoreNote)
     → notes_by w (notes ++ note ∷ []) ≡ cond (eqb note.worker w) (notes_by w notes ++ node_note note ∷ []) (notes_by w notes)
 notes-by-last w [] note = refl
 notes-by-last w (n ∷ notes) note =
-    longer-notes (node_note n) (node_note note) (eqb n.worker w) (eqb note.worker w) (notes_by w (notes ++ note ∷ [])) (notes_by w notes) (notes-by-last w notes note)
+    longer-notes (node_note n) (node_note note) (eqb n.worker w) (eqb note.worker w) (notes_by w (notes ++ note ∷ [])) (notes_by w notes)
+    (notes-by-last w notes note)
 
 -- ---- what is counted in lists
 

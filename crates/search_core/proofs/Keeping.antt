@@ -34,18 +34,25 @@ module _ (core : Core) (apart : IsGoodApart core) (w : ℕ) (known : w < length 
 
   -- what was held and noted of tickets stays, whatever is counted
   abbrev pub SameTickets : Worker → List CoreNote → Type 0
-  SameTickets v notes = (m : Measure) → m.of (option_to_list v.ticket) + m.of (noted_tickets notes) ≡ m.of (option_to_list old.ticket) + m.of (noted_tickets core.notes)
+  SameTickets v notes = (m : Measure)
+      → m.of (option_to_list v.ticket) + m.of (noted_tickets notes) ≡ m.of (option_to_list old.ticket) + m.of (noted_tickets core.notes)
 
-  held : (m : Measure) (v : Worker) → m.of (held_tickets (set core.workers w v)) + m.of (option_to_list old.ticket) ≡ m.of (held_tickets core.workers) + m.of (option_to_list v.ticket)
+  held : (m : Measure) (v : Worker)
+      → m.of (held_tickets (set core.workers w v)) + m.of (option_to_list old.ticket) ≡ m.of (held_tickets core.workers) + m.of
+      (option_to_list v.ticket)
   held m v = counted-set m (λ (u : Worker). option_to_list u.ticket) core.workers w (fresh_worker None) v known
 
-  pub same-tickets : (v : Worker) (best : Option ℤ) (notes : List CoreNote) → SameTickets v notes → v.spent ≡ old.spent → HasTickets (changed core w v core.counter best notes)
+  pub same-tickets : (v : Worker) (best : Option ℤ) (notes : List CoreNote) → SameTickets v notes → v.spent ≡ old.spent
+      → HasTickets (changed core w v core.counter best notes)
   same-tickets v best notes same spent = let t = apart.tickets in
-      let moved : (m : Measure) → m.of (held_tickets (set core.workers w v) ++ noted_tickets notes) ≡ m.of (held_tickets core.workers ++ noted_tickets core.notes) = λ m.
-      (let a = m.both (held_tickets (set core.workers w v)) (noted_tickets notes) in let b = m.both (held_tickets core.workers) (noted_tickets core.notes) in let c = held m v in let d = same m in omega arith) in record {
+      let moved : (m : Measure) → m.of (held_tickets (set core.workers w v) ++ noted_tickets notes) ≡ m.of
+      (held_tickets core.workers ++ noted_tickets core.notes) = λ m.
+      (let a = m.both (held_tickets (set core.workers w v)) (noted_tickets notes) in
+      let b = m.both (held_tickets core.workers) (noted_tickets core.notes) in let c = held m v in let d = same m in omega arith) in record {
         each = each-same _ _ _ (λ x. moved (times-measure x)) t.each;
         many = moved length-measure ∙ t.many;
-        drawn = (let a = spent-set core.workers w (fresh_worker None) v known in let b : spent_one v ≡ spent_one old = ap (λ (s : Bool). cond s 1 0) spent in let c = t.drawn in omega arith);
+        drawn = (let a = spent-set core.workers w (fresh_worker None) v known in
+            let b : spent_one v ≡ spent_one old = ap (λ (s : Bool). cond s 1 0) spent in let c = t.drawn in omega arith);
       }
 
   module _ (v : Worker) (counter : ℕ) (best : Option ℤ) (notes : List CoreNote) where
@@ -90,7 +97,8 @@ module _ (core : Core) (apart : IsGoodApart core) (w : ℕ) (known : w < length 
           by.0,
           omega arith,
           dite (ℕ_discrete by.0 w)
-              (λ is. ap (λ (k : ℕ). (worker_at new k).offered) is ∙ ap (λ (u : Worker). u.offered) here ∙ own ∙ ap (λ (k : ℕ). (worker_at core k).offered) (sym is) ∙ by.2 ∙ sym same)
+              (λ is. ap (λ (k : ℕ). (worker_at new k).offered) is ∙ ap (λ (u : Worker). u.offered) here ∙ own
+              ∙ ap (λ (k : ℕ). (worker_at core k).offered) (sym is) ∙ by.2 ∙ sym same)
               (λ ne. ap (λ (u : Worker). u.offered) (there by.0 ne) ∙ by.2 ∙ sym same),
         ))
         apart.best
@@ -104,10 +112,18 @@ module _ (core : Core) (apart : IsGoodApart core) (w : ℕ) (known : w < length 
   }
 
   -- one worker changes, and nothing else
-  pub one-changes : (v : Worker) → IsGoodWorker core w v → v.ticket ≡ old.ticket → v.spent ≡ old.spent → v.offered ≡ old.offered → IsGoodApart (with_worker core w v)
+  pub one-changes : (v : Worker) → IsGoodWorker core w v → v.ticket ≡ old.ticket → v.spent ≡ old.spent → v.offered ≡ old.offered
+      → IsGoodApart (with_worker core w v)
   one-changes v mine ticket spent offered = assemble v core.counter core.best core.notes
       (same-tickets v core.best core.notes (λ m. ap (λ (t : Option ℕ). m.of (option_to_list t) + m.of (noted_tickets core.notes)) ticket) spent)
-      (record { full = mine.full; spent = mine.spent; offered = mine.offered; seen = mine.seen; cuts = mine.cuts; chains = same-chains (with_worker core w v) refl w v mine.chains })
+      (record {
+        full = mine.full;
+        spent = mine.spent;
+        offered = mine.offered;
+        seen = mine.seen;
+        cuts = mine.cuts;
+        chains = same-chains (with_worker core w v) refl w v mine.chains;
+      })
       (others v core.counter core.best core.notes (omega arith) (λ a le. le) (λ k u ne h. same-chains (with_worker core w v) refl k u h))
       (still-offered v core.counter core.best core.notes refl offered)
 
@@ -133,7 +149,9 @@ module _ (core : Core) (w : ℕ) (known : w < length core.workers) (v : Worker) 
 
   -- it is enough to count the nodes of the worker that changes
   pub balance : ((m : Measure) → m.of (nodes_of v) + m.of (noted_nodes notes) + m.of (part_nodes (noted_tickets core.notes))
-      ≡ m.of (nodes_of before) + m.of (noted_nodes core.notes) + m.of (part_nodes (noted_tickets notes))) → IsBalanced core (changed core w v counter best notes)
-  balance here m = let a = m.both (waiting_nodes (set core.workers w v)) (noted_nodes notes) in let b = m.both (waiting_nodes core.workers) (noted_nodes core.notes) in
+      ≡ m.of (nodes_of before) + m.of (noted_nodes core.notes) + m.of (part_nodes (noted_tickets notes)))
+      → IsBalanced core (changed core w v counter best notes)
+  balance here m = let a = m.both (waiting_nodes (set core.workers w v)) (noted_nodes notes) in
+      let b = m.both (waiting_nodes core.workers) (noted_nodes core.notes) in
       let c = m.both (0 ∷ []) (part_nodes (noted_tickets core.notes)) in let d = m.both (0 ∷ []) (part_nodes (noted_tickets notes)) in
       let e = counted-set m nodes_of core.workers w (fresh_worker None) v known in let f = here m in omega arith

@@ -64,7 +64,12 @@ fresh-good core w (Some id) noted _ = record {
   offered = tt;
   seen = tt;
   cuts = omega arith;
-  chains = record { taken = (id, tt) ∷ []; handed = []; chains = subst (λ (ns : List CoreNote). AreNodeChains ((id, tt) ∷ []) (notes_by w ns) [] (Some (id, tt))) (sym noted) (in_hand (id, tt)) };
+  chains = record {
+    taken = (id, tt) ∷ [];
+    handed = [];
+    chains = subst
+        (λ (ns : List CoreNote). AreNodeChains ((id, tt) ∷ []) (notes_by w ns) [] (Some (id, tt))) (sym noted) (in_hand (id, tt));
+  };
 }
 
 module _ (workers budget : ℕ) (some : 1 ≤ workers) (most : workers ≤ 17) (few : budget ≤ 65535) where
@@ -77,7 +82,8 @@ module _ (workers budget : ℕ) (some : 1 ≤ workers) (most : workers ≤ 17) (
   first-worker : (w : ℕ) → w < length first.workers → IsGoodWorker first w (worker_at first w)
   first-worker zero lt = fresh-good first 0 (Some 0) refl refl
   first-worker (suc w) lt = let long = length-replicate (workers - 1) (fresh_worker None) in
-      subst (IsGoodWorker first (suc w)) (sym (get_or-replicate (workers - 1) w (fresh_worker None) (fresh_worker None) (omega arith))) (fresh-good first (suc w) None refl refl)
+      subst (IsGoodWorker first (suc w)) (sym (get_or-replicate (workers - 1) w (fresh_worker None) (fresh_worker None) (omega arith)))
+      (fresh-good first (suc w) None refl refl)
 
   spent-none : (n : ℕ) → spent_count (replicate n (fresh_worker None)) ≡ 0
   spent-none zero = refl
@@ -148,7 +154,8 @@ part-of : (x : ℕ) (ts : List ℕ) → 0 < times x (part_nodes ts) → (t : ℕ
 part-of x [] some = absurd (omega arith)
 part-of x (t ∷ ts) some = dite (ℕ_discrete x (2 * t + 1)) (λ e. (t, among-first t ts, inl e))
     (λ ne. dite (ℕ_discrete x (2 * t + 2)) (λ e. (t, among-first t ts, inr e))
-    (λ ne'. let a = one-other x (2 * t + 1) ne in let b = one-other x (2 * t + 2) ne' in let more = part-of x ts (omega arith) in (more.0, among-rest t ts more.0 more.1, more.2)))
+    (λ ne'. let a = one-other x (2 * t + 1) ne in let b = one-other x (2 * t + 2) ne' in let more = part-of x ts (omega arith) in
+    (more.0, among-rest t ts more.0 more.1, more.2)))
 
 -- it is the ticket of this note, or of a later one
 this-or-later : (n : CoreNote) (notes : List CoreNote) (t : ℕ) (o : Option ℕ) → n.ticket ≡ o
@@ -193,7 +200,9 @@ module _ (core : Core) (good : IsGood core) (idle : IsIdle core) where
 
   none-held : held_tickets core.workers ≡ []
   none-held = flat-none (λ (u : Worker). option_to_list u.ticket) core.workers
-      (λ w lt. no-ticket (worker_at core w).ticket (λ t has. let full = (good.workers w lt).full t has in none-some full.0 (sym (empty-hand (worker_at core w).hand _ _ (idle w lt)) ∙ full.1)))
+      (λ w lt. no-ticket (worker_at core w).ticket
+      (λ t has. let full = (good.workers w lt).full t has in none-some full.0 (sym (empty-hand (worker_at core w).hand _ _ (idle w lt))
+      ∙ full.1)))
 
   all-tickets : HasEachBelow (tickets_given core) (noted_tickets core.notes)
   all-tickets = subst (λ (l : List ℕ). HasEachBelow (tickets_given core) (l ++ noted_tickets core.notes)) none-held good.tickets.each
@@ -212,7 +221,11 @@ module _ (core : Core) (good : IsGood core) (idle : IsIdle core) where
       (λ nz. let a = one-other x 0 nz in let p = part-of x (noted_tickets core.notes) (omega arith) in let n = note-of core.notes p.0 p.1 in
       let before = good.nodes.parents_first n.0 p.0 n.1 n.2 in let b = noted-once core.notes n.0 n.1 in let c = all-nodes n.0.id in
       let inner : Contains (node_notes core.notes) (inner_note n.0.id tt p.0 tt) =
-      subst (λ (o : Option ℕ). Contains (node_notes core.notes) (record { id = n.0.id; box = tt; outcome = outcome_of o })) n.2 (among-map node_note core.notes n.0 n.1) in
+      subst (λ (o : Option ℕ). Contains (node_notes core.notes) (record {
+        id = n.0.id;
+        box = tt;
+        outcome = outcome_of o;
+      })) n.2 (among-map node_note core.notes n.0 n.1) in
       ⊎_elim
       (λ (is : x ≡ 2 * p.0 + 1). subst Reached (sym is) (at_left n.0.id tt p.0 tt (reaches fuel n.0.id (omega arith) (omega arith)) inner))
       (λ (is : x ≡ 2 * p.0 + 2). subst Reached (sym is) (at_right n.0.id tt p.0 tt (reaches fuel n.0.id (omega arith) (omega arith)) inner))
@@ -220,17 +233,20 @@ module _ (core : Core) (good : IsGood core) (idle : IsIdle core) where
 
   node-count : (ids : List ℕ) (x y : ℕ) (among : Contains ids x) → 0 < times x ids
   node-count [] x y among = absurd (among-none x among)
-  node-count (i ∷ ids) x y among = ⊎_elim (λ (is : x ≡ i). let a = one-same x i is in omega arith) (λ there. let more = node-count ids x y there in omega arith) (among-which i ids x among)
+  node-count (i ∷ ids) x y among = ⊎_elim (λ (is : x ≡ i). let a = one-same x i is in omega arith)
+      (λ there. let more = node-count ids x y there in omega arith) (among-which i ids x among)
 
   among-ids : (notes : List NodeNote) (n : NodeNote) → Contains notes n → Contains (ids_of notes) n.id
   among-ids [] n among = absurd (among-none n among)
-  among-ids (m ∷ notes) n among = ⊎_elim (λ (is : n ≡ m). subst (λ (k : ℕ). Contains (m.id ∷ ids_of notes) k) (sym (ap (λ (k : NodeNote). k.id) is)) (among-first m.id (ids_of notes)))
+  among-ids (m ∷ notes) n among = ⊎_elim (λ (is : n ≡ m). subst (λ (k : ℕ). Contains (m.id ∷ ids_of notes) k) (sym (ap
+      (λ (k : NodeNote). k.id) is)) (among-first m.id (ids_of notes)))
       (λ there. among-rest m.id (ids_of notes) n.id (among-ids notes n there)) (among-which m notes n among)
 
   pub settled-of : AreSettledNodes (node_notes core.notes) (tickets_given core)
   settled-of = let ids = ids-noted core.notes in record {
     ids = nodes-below (tickets_given core) (noted_tickets core.notes) all-tickets (ids_of (node_notes core.notes))
-        (λ x. let a = all-nodes x in let b = parts-count x (noted_tickets core.notes) in let c : times x (ids_of (node_notes core.notes)) ≡ times x (noted_nodes core.notes) = ap (times x) ids in omega arith);
+        (λ x. let a = all-nodes x in let b = parts-count x (noted_tickets core.notes) in
+        let c : times x (ids_of (node_notes core.notes)) ≡ times x (noted_nodes core.notes) = ap (times x) ids in omega arith);
     tickets = subst (HasEachBelow (tickets_given core)) (sym (tickets-noted core.notes)) all-tickets;
     reached = λ n among. let a = node-count (ids_of (node_notes core.notes)) n.id 0 (among-ids (node_notes core.notes) n among) in
         let b : times n.id (ids_of (node_notes core.notes)) ≡ times n.id (noted_nodes core.notes) = ap (times n.id) ids in let c = all-nodes n.id in
@@ -241,7 +257,8 @@ spent-all : (core : Core) → IsGood core → HasSpent core → tickets_given co
 spent-all core good spent = let a = (good.workers spent.0 spent.1).spent spent.2 in omega arith
 
 -- the best is the greatest of the margins before and of those that the events offer
-run-best : (core end : Core) (events : List Event) (before : List ℤ) → IsGreatest core.best before → IsRun core events end → IsGreatest end.best (before ++ offers_of events)
+run-best : (core end : Core) (events : List Event) (before : List ℤ) → IsGreatest core.best before → IsRun core events end
+    → IsGreatest end.best (before ++ offers_of events)
 run-best core end [] before is run = subst (λ (y : Core × List ℤ). IsGreatest y.0.best y.1) (λ i. (run i, sym (append-nil before) i)) is
 run-best core end (Offer w m ∷ events) before is run = subst (IsGreatest end.best) (append_assoc before (m ∷ []) (offers_of events))
     (run-best (after core (Offer w m)) end events (before ++ m ∷ []) (greatest-more core.best before m is) run.1)
@@ -254,12 +271,13 @@ run-best core end (See w ∷ events) before is run = run-best (after core (See w
 run-best core end (PushCut w ∷ events) before is run = run-best (after core (PushCut w)) end events before is run.1
 
 pub runs-are-good : RunsAreGood
-runs-are-good workers budget events core some most few run = let good = run-good (first_core workers budget) core events (first-good workers budget some most few) run in record {
-  good = good;
-  best = run-best (first_core workers budget) core events [] refl run;
-  spent = spent-all core good;
-  settled = settled-of core good;
-}
+runs-are-good workers budget events core some most few run = let good = run-good (first_core workers budget) core events
+    (first-good workers budget some most few) run in record {
+      good = good;
+      best = run-best (first_core workers budget) core events [] refl run;
+      spent = spent-all core good;
+      settled = settled-of core good;
+    }
 
 -- ---- what the code asks
 

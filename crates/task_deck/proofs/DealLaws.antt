@@ -65,7 +65,8 @@ owner-alone ((zero, x) ∷ takes) none = ap (λ (l : List TaskParts). x ∷ l) (
     rest-none : (who : ℕ) → 0 < who → taken_by who takes ≡ []
     rest-none who lt = sym (ap (λ (b : Bool). cond b (x ∷ taken_by who takes) (taken_by who takes)) (ne_eqb who 0 (λ e. omega arith))) ∙ none who lt
 owner-alone ((suc p, x) ∷ takes) none =
-    let some : x ∷ taken_by (suc p) takes ≡ [] = sym (ap (λ (b : Bool). cond b (x ∷ taken_by (suc p) takes) (taken_by (suc p) takes)) (eq-eqb (suc p) (suc p) refl)) ∙ none (suc p) (omega arith) in
+    let some : x ∷ taken_by (suc p) takes ≡ [] = sym (ap
+    (λ (b : Bool). cond b (x ∷ taken_by (suc p) takes) (taken_by (suc p) takes)) (eq-eqb (suc p) (suc p) refl)) ∙ none (suc p) (omega arith) in
     let long : length (x ∷ taken_by (suc p) takes) ≡ 0 = ap length some in absurd (omega arith)
 
 pub begins : IsDealt [] (owner_hand ∷ [])
@@ -73,42 +74,56 @@ begins = record {
   takes = [];
   fits = λ j u e. ⊎_elim (λ t. absurd (some-ne-none u (sym t)))
       (λ (t : (j ≡ 0) × (owner_hand ≡ u)). subst (λ (y : Hand). Fits [] [] (owner_hand ∷ []) j y) t.1 (record {
-        owner = λ _. record { place = t.0; made = refl; pushed = refl; taken = refl; no_other = λ who lt. refl; known = λ k among. absurd (among-none k among) };
+        owner = λ _. record {
+          place = t.0;
+          made = refl;
+          pushed = refl;
+          taken = refl;
+          no_other = λ who lt. refl;
+          known = λ k among. absurd (among-none k among);
+        };
         thief = λ no. absurd (true≢false no);
       }))
       (at_end [] (owner_hand) u j e);
 }
 
 pub pushes : (port : ℕ) (v : Hand) (xs : List TaskParts) → v.owns ≡ true → Pushes IsDealt port v xs (λ w. w ≡ with_pushed v xs)
-pushes port v xs may items views h at = let w : Hand = with_pushed v xs in let o = (h.fits port v at).owner may in let n = length-set views port w in let here = o.place in (
-  w,
-  record {
-    takes = h.takes;
-    fits = all_set (Fits h.takes (items ++ xs) (set views port w)) views port w
-        (record {
-          owner = λ _. record {
-            place = o.place;
-            made = n ∙ o.made;
-            pushed = ap (λ (l : List TaskParts). l ++ xs) o.pushed ∙ append_assoc (tasks_of h.takes) items xs;
-            taken = o.taken;
-            no_other = o.no_other;
-            known = λ k among. let was = o.known k among in record { tasks = was.tasks; gone = set_else views port (suc k.pass) w (λ e. omega arith) ∙ was.gone };
-          };
-          thief = λ no. absurd (true≢false (sym may ∙ no));
-        })
-        (λ j u ne e. record {
-          owner = λ p. absurd (ne (((h.fits j u e).owner p).place ∙ sym o.place));
-          thief = (h.fits j u e).thief;
-        });
-  },
-  refl,
-)
+pushes port v xs may items views h at = let w : Hand = with_pushed v xs in let o = (h.fits port v at).owner may in
+    let n = length-set views port w in let here = o.place in (
+      w,
+      record {
+        takes = h.takes;
+        fits = all_set (Fits h.takes (items ++ xs) (set views port w)) views port w
+            (record {
+              owner = λ _. record {
+                place = o.place;
+                made = n ∙ o.made;
+                pushed = ap (λ (l : List TaskParts). l ++ xs) o.pushed ∙ append_assoc (tasks_of h.takes) items xs;
+                taken = o.taken;
+                no_other = o.no_other;
+                known = λ k among. let was = o.known k among in record {
+                  tasks = was.tasks;
+                  gone = set_else views port (suc k.pass) w
+                      (λ e. omega arith) ∙ was.gone;
+                };
+              };
+              thief = λ no. absurd (true≢false (sym may ∙ no));
+            })
+            (λ j u ne e. record {
+              owner = λ p. absurd (ne (((h.fits j u e).owner p).place ∙ sym o.place));
+              thief = (h.fits j u e).thief;
+            });
+      },
+      refl,
+    )
 
 pub pops : (port : ℕ) (v : Hand) → v.owns ≡ true → Takes IsDealt port v 1 (λ xs w. (w ≡ with_taken v xs) × IsNext v xs)
 pops port v may [] items views some_ few h at = absurd (omega arith)
 pops port v may (x ∷ y ∷ ys) items views some_ few h at = absurd (omega arith)
-pops port v may (x ∷ []) items views some_ few h at = let w : Hand = with_taken v (x ∷ []) in let o = (h.fits port v at).owner may in let n = length-set views port w in let takes = h.takes ++ (0, x) ∷ [] in let here = o.place in
-    let pushed : v.pushed ≡ tasks_of takes ++ items = o.pushed ∙ sym (append_assoc (tasks_of h.takes) (x ∷ []) items) ∙ ap (λ (l : List TaskParts). l ++ items) (sym (tasks_snoc h.takes 0 x)) in
+pops port v may (x ∷ []) items views some_ few h at = let w : Hand = with_taken v (x ∷ []) in let o = (h.fits port v at).owner may in
+    let n = length-set views port w in let takes = h.takes ++ (0, x) ∷ [] in let here = o.place in
+    let pushed : v.pushed ≡ tasks_of takes ++ items = o.pushed ∙ sym (append_assoc (tasks_of h.takes) (x ∷ []) items)
+    ∙ ap (λ (l : List TaskParts). l ++ items) (sym (tasks_snoc h.takes 0 x)) in
     let taken : w.taken ≡ taken_by 0 takes = ap (λ (l : List TaskParts). l ++ x ∷ []) o.taken ∙ sym (of_same 0 h.takes x) in (
       w,
       record {
@@ -130,17 +145,20 @@ pops port v may (x ∷ []) items views some_ few h at = let w : Hand = with_take
             })
             (λ j u ne e. record {
               owner = λ p. absurd (ne (((h.fits j u e).owner p).place ∙ sym o.place));
-              thief = λ a b. let t = (h.fits j u e).thief a b in let p = t.place in record { place = p; taken = t.taken ∙ sym (of_other j 0 (λ z. omega arith) h.takes x) };
+              thief = λ a b. let t = (h.fits j u e).thief a b in let p = t.place in
+                  record { place = p; taken = t.taken ∙ sym (of_other j 0 (λ z. omega arith) h.takes x) };
             });
       },
       (
         refl,
         record {
-          few = λ _. let a : length w.taken ≡ length (taken_by 0 takes) = ap length taken in let b : length v.pushed ≡ length (tasks_of takes ++ items) = ap length pushed in
+          few = λ _. let a : length w.taken ≡ length (taken_by 0 takes) = ap length taken in
+              let b : length v.pushed ≡ length (tasks_of takes ++ items) = ap length pushed in
               let c = length-append (tasks_of takes) items in let d = of_short 0 takes in omega arith;
           alone = λ _ none. (
             items,
-            pushed ∙ ap (λ (l : List TaskParts). l ++ items) (sym (taken ∙ owner-alone takes (λ who lt. of_other who 0 (λ z. omega arith) h.takes x ∙ o.no_other who (omega arith)))),
+            pushed ∙ ap (λ (l : List TaskParts). l ++ items) (sym (taken ∙ owner-alone takes (λ who lt. of_other who 0 (λ z. omega arith) h.takes x
+                ∙ o.no_other who (omega arith)))),
           );
         },
       ),
@@ -149,7 +167,8 @@ pops port v may (x ∷ []) items views some_ few h at = let w : Hand = with_take
 pub steals : (port : ℕ) (v : Hand) → v.owns ≡ false → v.gone ≡ false → Takes IsDealt port v 1 (λ xs w. (w ≡ with_taken v xs) × IsNext v xs)
 steals port v thief here [] items views some_ few h at = absurd (omega arith)
 steals port v thief here (x ∷ y ∷ ys) items views some_ few h at = absurd (omega arith)
-steals port v thief here (x ∷ []) items views some_ few h at = let w : Hand = with_taken v (x ∷ []) in let t = (h.fits port v at).thief thief here in let n = length-set views port w in let takes = h.takes ++ (port, x) ∷ [] in
+steals port v thief here (x ∷ []) items views some_ few h at = let w : Hand = with_taken v (x ∷ []) in
+    let t = (h.fits port v at).thief thief here in let n = length-set views port w in let takes = h.takes ++ (port, x) ∷ [] in
     let inside = in_range views port v at in let mine = t.place in (
       w,
       record {
@@ -161,10 +180,14 @@ steals port v thief here (x ∷ []) items views some_ few h at = let w : Hand = 
             })
             (λ j u ne e. record {
               owner = λ p. let o = (h.fits j u e).owner p in let made = o.made in
-                  let apart : (k : Taken) → Contains u.known k → suc k.pass ≢ port = λ k among is. true≢false (ap (λ (y : Hand). y.gone) (some-injective gone_hand v (sym ((o.known k among).gone) ∙ ap (get_elem? views) is ∙ at)) ∙ here) in record {
+                  let apart : (k : Taken) → Contains u.known k
+                  → suc k.pass ≢ port = λ k among is. true≢false (ap
+                  (λ (y : Hand). y.gone) (some-injective gone_hand v (sym ((o.known k among).gone) ∙ ap (get_elem? views) is ∙ at))
+                  ∙ here) in record {
                     place = o.place;
                     made = n ∙ o.made;
-                    pushed = o.pushed ∙ sym (append_assoc (tasks_of h.takes) (x ∷ []) items) ∙ ap (λ (l : List TaskParts). l ++ items) (sym (tasks_snoc h.takes port x));
+                    pushed = o.pushed ∙ sym (append_assoc (tasks_of h.takes) (x ∷ []) items)
+                        ∙ ap (λ (l : List TaskParts). l ++ items) (sym (tasks_snoc h.takes port x));
                     taken = o.taken ∙ sym (of_other 0 port (λ z. omega arith) h.takes x);
                     no_other = λ who lt. of_other who port (λ z. omega arith) h.takes x ∙ o.no_other who lt;
                     known = λ k among. let was = o.known k among in record {
@@ -179,8 +202,10 @@ steals port v thief here (x ∷ []) items views some_ few h at = let w : Hand = 
     )
 
 pub forks : (port : ℕ) (v : Hand) → v.owns ≡ true → Forks IsDealt port v (with_pass v) (pass_hand v)
-forks port v may items views h at = let l : Hand = with_pass v in let r : Hand = pass_hand v in let o = (h.fits port v at).owner may in let vs : List Hand = set views port l in let n = length-set views port l in
-    let here = o.place in let views' : List Hand = vs ++ r ∷ [] in let longer : length views' ≡ suc (suc v.passes) = (let k = length-append vs (r ∷ []) in let m = o.made in omega arith) in record {
+forks port v may items views h at = let l : Hand = with_pass v in let r : Hand = pass_hand v in let o = (h.fits port v at).owner may in
+    let vs : List Hand = set views port l in let n = length-set views port l in
+    let here = o.place in let views' : List Hand = vs ++ r ∷ [] in let longer : length views' ≡ suc (suc v.passes) = (let k = length-append vs
+    (r ∷ []) in let m = o.made in omega arith) in record {
       takes = h.takes;
       fits = λ j u e. ⊎_elim
           (λ x. all_set (Fits h.takes items views') views port l
@@ -210,12 +235,18 @@ forks port v may items views h at = let l : Hand = with_pass v in let r : Hand =
           (at_end vs r u j e);
     }
 
-pub gathers : (port : ℕ) (v : Hand) (other : ℕ) (u : Hand) → v.owns ≡ true → u.owns ≡ false → u.gone ≡ false → Merges IsDealt port v other u (with_known v u) gone_hand
-gathers port v other u may thief there items views h at two at' = let w : Hand = with_known v u in let vs : List Hand = set views port w in let o = (h.fits port v at).owner may in let n = length-set views port w in let n' = length-set vs other gone_hand in
-    let was : get_elem? views other ≡ some u = sym (set_else views port other w two) ∙ at' in let t = (h.fits other u was).thief thief there in let mine = o.place in let place = t.place in let made = o.made in let inside = in_range vs other u at' in
-    let left : (k : ℕ) → (suc k ≡ other) ⊎ ((suc k ≢ other) × (get_elem? views (suc k) ≡ some gone_hand)) → get_elem? (set vs other gone_hand) (suc k) ≡ some gone_hand = λ k which. ⊎_elim
+pub gathers : (port : ℕ) (v : Hand) (other : ℕ) (u : Hand) → v.owns ≡ true → u.owns ≡ false → u.gone ≡ false
+    → Merges IsDealt port v other u (with_known v u) gone_hand
+gathers port v other u may thief there items views h at two at' = let w : Hand = with_known v u in let vs : List Hand = set views port w in
+    let o = (h.fits port v at).owner may in let n = length-set views port w in let n' = length-set vs other gone_hand in
+    let was : get_elem? views other ≡ some u = sym (set_else views port other w two) ∙ at' in
+    let t = (h.fits other u was).thief thief there in let mine = o.place in let place = t.place in let made = o.made in
+    let inside = in_range vs other u at' in
+    let left : (k : ℕ) → (suc k ≡ other) ⊎ ((suc k ≢ other) × (get_elem? views (suc k) ≡ some gone_hand))
+    → get_elem? (set vs other gone_hand) (suc k) ≡ some gone_hand = λ k which. ⊎_elim
     (λ (is : suc k ≡ other). ap (get_elem? (set vs other gone_hand)) is ∙ set_here vs other gone_hand inside)
-    (λ (x : (suc k ≢ other) × (get_elem? views (suc k) ≡ some gone_hand)). set_else vs other (suc k) gone_hand x.0 ∙ set_else views port (suc k) w (λ e. omega arith) ∙ x.1) which in record {
+    (λ (x : (suc k ≢ other) × (get_elem? views (suc k) ≡ some gone_hand)). set_else vs other (suc k) gone_hand x.0
+    ∙ set_else views port (suc k) w (λ e. omega arith) ∙ x.1) which in record {
       takes = h.takes;
       fits = all_set (Fits h.takes items (set vs other gone_hand)) vs other gone_hand
           (record { owner = λ yes. absurd (true≢false (sym yes)); thief = λ _ no. absurd (true≢false no) })

@@ -34,7 +34,8 @@ view-step initial old new u was now =
     ∙ ap (λ (k : List Taken). record initial { known = k }) (sym (ap (λ (h : Hand). h.known) now))
 
 -- passes of a deck are of it
-pub pass-of : (deck : DeckId) (number : ℕ) (passes : List DoorPass) → ArePassesFrom deck number passes → (pass : DoorPass) → Contains passes pass → IsPassOfDeck deck pass
+pub pass-of : (deck : DeckId) (number : ℕ) (passes : List DoorPass) → ArePassesFrom deck number passes → (pass : DoorPass) → Contains passes pass
+    → IsPassOfDeck deck pass
 pass-of deck number [] are pass among = absurd (among-none pass among)
 pass-of deck number (p ∷ passes) are pass among = ⊎_elim
     (λ (is : pass ≡ p). subst (IsPassOfDeck deck) (sym is) are.0)
@@ -54,7 +55,8 @@ stolen-length : (passes : List DoorPass) → length (stolen_by passes) ≡ lengt
 stolen-length [] = refl
 stolen-length (p ∷ passes) = ap suc (stolen-length passes)
 
-pub account-of : (deck : DeckId) (v end : Hand) (passes : List DoorPass) (left : List TaskParts) → end ≡ with_taken (record v { known = known_of passes }) left → IsDealtOut end
+pub account-of : (deck : DeckId) (v end : Hand) (passes : List DoorPass) (left : List TaskParts)
+    → end ≡ with_taken (record v { known = known_of passes }) left → IsDealtOut end
     → ArePassesFrom deck 0 passes → length passes ≡ v.passes → IsAccount v.pushed v.taken (stolen_by passes) left
 account-of deck v end passes left is out are all = let dealt = subst IsDealtOut is out in record {
   takes = dealt.takes;

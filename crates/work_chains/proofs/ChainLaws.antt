@@ -27,7 +27,8 @@ module _ {B S : Type 0} (Divides : B → S → Type 0) (left right : B → S →
       → Chains taken (notes ++ inner_note id box ticket split ∷ []) (handed ++ (2 * ticket + 2, right box split) ∷ []) (Some (2 * ticket + 1, left box split))
   divides_hand id box ticket split lawful is no_task = absurd (none-some (id, box) is)
   divides_hand id box ticket split lawful is (in_hand task) =
-      subst (λ (t : ℕ × B). Chains (t ∷ []) (inner_note id box ticket split ∷ []) ((2 * ticket + 2, right box split) ∷ []) (Some (2 * ticket + 1, left box split)))
+      subst (λ (t : ℕ × B). Chains (t ∷ []) (inner_note id box ticket split ∷ []) ((2 * ticket + 2, right box split) ∷ []) (Some
+      (2 * ticket + 1, left box split)))
       (sym (same_Some task (id, box) is)) (divides id box ticket split lawful (in_hand (2 * ticket + 1, left box split)))
   divides_hand id box ticket split lawful is (closes other bx chains) = closes other bx (divides_hand id box ticket split lawful is chains)
   divides_hand id box ticket split lawful is (divides other bx t s l chains) = divides other bx t s l (divides_hand id box ticket split lawful is chains)

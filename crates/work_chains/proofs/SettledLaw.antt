@@ -23,7 +23,8 @@ module _ {B S : Type 0} (Divides : B → S → Type 0) (left right : B → S →
 
   -- ---- how often a node is noted and handed on
 
-  pub noted_ids : {taken : List (ℕ × B)} {notes : List Note} {handed : List (ℕ × B)} {hand : Option (ℕ × B)} → Chains taken notes handed hand → hand ≡ None → (x : ℕ)
+  pub noted_ids : {taken : List (ℕ × B)} {notes : List Note} {handed : List (ℕ × B)} {hand : Option (ℕ × B)} → Chains taken notes handed hand
+      → hand ≡ None → (x : ℕ)
       → times x (ids_of notes) ≡ times x (task_ids taken) + lefts x (tickets_of notes)
   noted_ids no_task ended x = refl
   noted_ids (in_hand task) ended x = absurd (none-some task (sym ended))
@@ -116,11 +117,13 @@ module _ {B S : Type 0} (Divides : B → S → Type 0) (left right : B → S →
     at_most : (notes : List Note) (note : Note) → Contains notes note → size note.box ≤ greatest notes
     at_most [] note there = absurd (among-none note there)
     at_most (first ∷ notes) note there = ⊎_elim
-        (λ (is : note ≡ first). let e : size note.box ≡ size first.box = ap (λ (n : Note). size n.box) is in let le = le-max_left (size first.box) (greatest notes) in omega arith)
+        (λ (is : note ≡ first). let e : size note.box ≡ size first.box = ap (λ (n : Note). size n.box) is in
+        let le = le-max_left (size first.box) (greatest notes) in omega arith)
         (λ rest. let le = at_most notes note rest in let more = le-max_right (size first.box) (greatest notes) in omega arith)
         (among-which first notes note there)
 
-    module _ (root : B) (taken : List (ℕ × B)) (notes : List Note) (handed : List (ℕ × B)) (chains : Chains taken notes handed None) (all : TakesAllHanded root taken handed) where
+    module _ (root : B) (taken : List (ℕ × B)) (notes : List Note) (handed : List (ℕ × B)) (chains : Chains taken notes handed None)
+        (all : TakesAllHanded root taken handed) where
       -- a note is that of the root, or its box is a part
       origin : (note : Note) → Contains notes note → ((note.id ≡ 0) × (note.box ≡ root)) ⊎ HasHolder notes note.id note.box
       origin note there = ⊎_elim
@@ -142,10 +145,14 @@ module _ {B S : Type 0} (Divides : B → S → Type 0) (left right : B → S →
           (λ (has : HasHolder notes note.id note.box). let less = fewer has.above has.split has.lawful in let l = less.0 in let r = less.1 in
           let up : Note = inner_note has.holder has.above has.ticket has.split in
           ⊎_elim
-          (λ (is : (note.id ≡ 2 * has.ticket + 1) × (note.box ≡ left has.above has.split)). let same : size note.box ≡ size (left has.above has.split) = ap size is.1 in
-          subst ReachesTask (λ i. (sym is.0 i, sym is.1 i)) (at_left has.holder has.above has.ticket has.split (reaches fuel up has.noted (omega arith)) has.noted))
-          (λ (is : (note.id ≡ 2 * has.ticket + 2) × (note.box ≡ right has.above has.split)). let same : size note.box ≡ size (right has.above has.split) = ap size is.1 in
-          subst ReachesTask (λ i. (sym is.0 i, sym is.1 i)) (at_right has.holder has.above has.ticket has.split (reaches fuel up has.noted (omega arith)) has.noted))
+          (λ (is : (note.id ≡ 2 * has.ticket + 1) × (note.box ≡ left has.above has.split)). let same : size note.box ≡ size
+          (left has.above has.split) = ap size is.1 in
+          subst ReachesTask (λ i. (sym is.0 i, sym is.1 i)) (at_left has.holder has.above has.ticket has.split (reaches fuel up has.noted
+          (omega arith)) has.noted))
+          (λ (is : (note.id ≡ 2 * has.ticket + 2) × (note.box ≡ right has.above has.split)). let same : size note.box ≡ size
+          (right has.above has.split) = ap size is.1 in
+          subst ReachesTask (λ i. (sym is.0 i, sym is.1 i)) (at_right has.holder has.above has.ticket has.split (reaches fuel up has.noted
+          (omega arith)) has.noted))
           has.part)
           (origin note there)
 

@@ -5,9 +5,9 @@
 //! the way are the chain of the task. Who takes which task, in which order and in which thread, stands nowhere here.
 //!
 //! To the crates above this crate promises the settled law: notes that are the chains of the root's task and of all
-//! that was handed on, each once, with tickets from 0 on, each once, are the notes of one whole search tree, and each has
-//! the box that the splits from the root give it. [`settled_law`] says so of boxes of slots, [`chain_laws`] how chains
-//! grow while a worker writes them. It has no code that runs.
+//! that was handed on, each once, with tickets from 0 on, each once, are the notes of one whole search tree, and each
+//! has the box that the splits from the root give it. [`settled_law`] says so of boxes of slots, [`chain_laws`] how
+//! chains grow while a worker writes them. It has no code that runs.
 //!
 //! Begin with `specs/Chains.antt`, then `ChainsSettle` in `specs/Laws.antt`; its proof is `proofs/SettledLaw.antt`, by
 //! counting numbers of nodes and by going up from each note to the root, through boxes with more and more points.

@@ -22,6 +22,7 @@ loop-pass-preserved c = record {
   of = λ pass among.
       c.loop-pass.invariant.of pass
       (subst (λ (l : List DoorPass). Contains l pass) (sym c.in-Some.ensures) (among-longer _ _ pass among));
-  view = view-step (worker_view c.args.deque.now) (worker_view c.loop-pass.deque) (worker_view c.take_back.new.deque) (view c.in-Some.pass.mark) c.loop-pass.invariant.view c.take_back.ensures.known;
+  view = view-step (worker_view c.args.deque.now) (worker_view c.loop-pass.deque) (worker_view c.take_back.new.deque)
+      (view c.in-Some.pass.mark) c.loop-pass.invariant.view c.take_back.ensures.known;
   known = known-step _ _ c.in-Some.pass _ _ _ c.in-Some.ensures (ap (λ (h : Hand). h.known) c.take_back.ensures.known) c.loop-pass.invariant.known;
 }

@@ -16,7 +16,8 @@ returns c =
     let lesser = min-either c.word-counter.result c.from.result c.min.result c.min.ensures in
     let end : IsEnd c.self.inside.table.shared.key c.min.result c.word-best.result c.last.inside.seat.me.0 =
     closes _ _ _ _ _ c.word-counter.result c.word-best.result c.min.result c.close_with-closed.ensures.values.2 c.word-counter.ensures c.word-best.ensures
-    (omega arith) (lesser.0, omega (arith, budget, lesser.1)) (subst (λ (k : ℕ). (c.min.result ≡ c.word-counter.result) ⊎ (c.min.result ≡ k)) budget lesser.2) in
+    (omega arith) (lesser.0, omega (arith, budget, lesser.1)) (subst
+    (λ (k : ℕ). (c.min.result ≡ c.word-counter.result) ⊎ (c.min.result ≡ k)) budget lesser.2) in
     subst (λ (y : SeatView × Option ℤ). IsClosing y.0 c.min.result y.1) (λ i. (c.last.view_is i, sym c.margin_of.ensures i))
     (closing c.last.inside.seat.table_id c.last.inside.seat.me.0 c.min.result c.word-best.result
     (subst (λ (k : ℕ). IsEnd k c.min.result c.word-best.result c.last.inside.seat.me.0) key end))

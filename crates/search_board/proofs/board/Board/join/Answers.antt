@@ -7,8 +7,14 @@ use Rattle.search_board.proofs.board.Board.join.Goals as goal
 pub join_seat-requires : goal.join_seat-requires
 join_seat-requires c =
     let on = ap (λ (v : SeatView). v.board) c.into.view_is ∙ c.requires.of ∙ sym c.self.view_is in let wide = c.self.invariant.0 in
-    let other = ap (λ (v : SeatView). v.board) c.done.view_is ∙ c.requires.done ∙ sym c.self.view_is in
-    (ap (λ (b : BoardView). b.table) on, ap (λ (b : BoardView). b.table) other, c.done.invariant.0, omega arith, merges _ _ _ _ _ c.into.invariant.1 c.done.invariant.1)
+    let other = ap (λ (v : SeatView). v.board) c.done.view_is ∙ c.requires.done ∙ sym c.self.view_is in (
+      ap (λ (b : BoardView). b.table) on,
+      ap
+          (λ (b : BoardView). b.table) other,
+      c.done.invariant.0,
+      omega arith,
+      merges _ _ _ _ _ c.into.invariant.1 c.done.invariant.1,
+    )
 
 pub returns-then-is_none : goal.returns-then-is_none
 returns-then-is_none c =
