@@ -1,0 +1,3 @@
+pub mod BoardSteps
+pub mod MarginLaws
+pub mod SeatLaws

@@ -1,0 +1,25 @@
+use Rattle.std.proofs.Common.{sym, ap, ◌∙◌, arith}
+use Rattle.search_board.specs.Seats.{BoardView, SeatView}
+use mathlib.Core.Option.{none}
+use Rattle.atomic_table.specs.Table.{step}
+use Rattle.std.proofs.Common.{◌+◌, ◌-◌, ◌%◌, ◌^◌}
+use Rattle.search_board.proofs.BoardSteps.{hints}
+use Rattle.search_board.proofs.board.Board.say_busy.Goals as goal
+
+pub fetch_add-requires : goal.fetch_add-requires
+fetch_add-requires c =
+    let on = ap (λ (v : SeatView). v.board) c.seat.view_is ∙ c.requires ∙ sym c.self.view_is in let wide = c.self.invariant.0 in (
+      ap (λ (b : BoardView). b.table) on,
+      omega arith,
+      hints _ _ _ _ 2
+          (λ n. (n + 1) % 2 ^ 64) (step c.self.inside.table.shared.table_id.slots 2 1 0 none) (omega arith),
+    )
+
+pub fetch_sub-requires : goal.fetch_sub-requires
+fetch_sub-requires c =
+    let on = ap (λ (v : SeatView). v.board) c.seat.view_is ∙ c.requires ∙ sym c.self.view_is in let wide = c.self.invariant.0 in (
+      ap (λ (b : BoardView). b.table) on,
+      omega arith,
+      hints _ _ _ _ 2
+          (λ n. (n + (2 ^ 64 - 1)) % 2 ^ 64) (step c.self.inside.table.shared.table_id.slots 2 1 0 none) (omega arith),
+    )

@@ -1,0 +1,4 @@
+pub mod Cores
+pub mod Events
+pub mod Good
+pub mod Laws

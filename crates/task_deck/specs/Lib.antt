@@ -1,0 +1,4 @@
+pub mod Accounts
+pub mod Decks
+pub mod Steals
+pub mod inside

@@ -1,0 +1,4 @@
+pub mod BoxChains
+pub mod Chains
+pub mod Laws
+pub mod NodeChains
