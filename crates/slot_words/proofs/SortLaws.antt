@@ -23,7 +23,8 @@ use Rattle.slot_words.specs.Swaps.AreEquivalent.{itself}
 use Rattle.slot_words.specs.ByStart.{starts_at, IsByStart}
 use Rattle.slot_words.proofs.PairLaws.{may_run}
 use Rattle.slot_words.proofs.ChainLaws.{one_swap, joined, behind, equivalent_mean_the_same, same_entries}
-use Rattle.slot_words.proofs.StartLaws.{start-faults, last_start_push}
+use Rattle.replay_core.proofs.RuleLaws.{rules_kept}
+use Rattle.slot_words.proofs.StartLaws.{start-faults, start-order, last_start_push}
 
 -- ---- of two that are ordered the first starts no later
 
@@ -117,7 +118,7 @@ sorted-chain parts word (more t later may keeps) =
 -- ---- it is sorted
 
 -- none starts before the minute, nor before the one ahead of it
-data RisesFrom : ℕ → List Timed → Type 0 where
+pub data RisesFrom : ℕ → List Timed → Type 0 where
   end : (minute : ℕ) → RisesFrom minute []
   rises : (minute : ℕ) (t : Timed) (later : List Timed) → minute ≤ t.start → RisesFrom t.start later → RisesFrom minute (t ∷ later)
 
@@ -264,3 +265,17 @@ sorted_word_is_plan parts word sorted sound is legal =
     first_broken-accepted parts ByStart (sorted_of word) by_start
     ∙ sym (first_broken-accepted parts BySlot (sorted_of word) (means.can_run runs)) ∙ means.legal legal in
     subst (λ (plan : List Timed). IsLegal parts plan × (margin_of parts plan ≡ margin_of parts word)) (sym (is_sorted word sorted is)) (plan, means.margin runs)
+
+-- ---- the starts of a plan rise
+
+plan-from : (parts : Parts) (before later : List Timed) → step_faults_from parts ByStart before later ≡ [] → RisesFrom (last_start before) later
+plan-from parts before [] faultless = end (last_start before)
+plan-from parts before (t ∷ later) faultless =
+    let parted = nil_of_append (op_faults parts ByStart before t (length before + 1)) (step_faults_from parts ByStart (before ++ t ∷ []) later) faultless in
+    let order = start-order parts before t (length before + 1) (rules_kept parts ByStart before t (length before + 1) parted.0).in_order in
+    let rest = plan-from parts (before ++ t ∷ []) later parted.1 in
+    rises (last_start before) t later order (subst (λ (minute : ℕ). RisesFrom minute later) (last_start_push before t) rest)
+
+pub rising_plan : (parts : Parts) (plan : List Timed) → CanRun parts ByStart plan → RisesFrom (last_start []) plan
+unfolding step_faults
+rising_plan parts plan runs = plan-from parts [] plan runs

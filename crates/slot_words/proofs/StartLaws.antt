@@ -50,7 +50,7 @@ slot-faults : (parts : Parts) (before : List Timed) (t : Timed) (at : ℕ) → o
 unfolding op_faults order_faults
 slot-faults parts before t at own order places = rw (own, order, places) refl
 
-start-order : (parts : Parts) (before : List Timed) (t : Timed) (at : ℕ) → order_faults parts ByStart before t at ≡ [] → last_start before ≤ t.start
+pub start-order : (parts : Parts) (before : List Timed) (t : Timed) (at : ℕ) → order_faults parts ByStart before t at ≡ [] → last_start before ≤ t.start
 unfolding order_faults
 start-order parts before t at none = starts_in_order-true before t (holds_of_nil (starts_in_order before t) (broken 6 at) none)
 
