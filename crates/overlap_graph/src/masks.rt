@@ -1,6 +1,7 @@
 ghost use Rattle.std.specs.Prelude.{◌≡◌, ◌<◌, ◌≤◌, IfOk, length};
 ghost use Rattle.limits.specs.declared.TheConstants.{MOST_OPERATIONS};
 ghost use Rattle.plant_model.specs.Parts.{op_count_of};
+ghost use Rattle.plant_model.specs.Relations.{independent_of};
 ghost use Rattle.overlap_graph.specs.Independence.{independent_mask_of, independence_of, IsIndependentSet, AreIndependentSets};
 
 use crate::cover::{Masks, push_mask};
@@ -16,11 +17,21 @@ pub fn independent_mask(plant: &Plant, v: u8) -> u64
 {
     let mut mask = 0;
     for w in 0..plant.op_count() {
-        if !plant.ordered(v, w) {
+        if is_independent(plant, v, w) {
             mask = with_member(mask, w);
         }
     }
     mask
+}
+
+/// Whether neither operation has to come before the other.
+#[tactic(auto, unfolding(plant_model::specs::Relations::independent_of))]
+fn is_independent(plant: &Plant, v: u8, w: u8) -> bool
+    requires first { v < op_count_of plant.now }
+    requires second { w < op_count_of plant.now }
+    ensures { result ≡ independent_of plant.now v w }
+{
+    !plant.ordered(v, w)
 }
 
 /// These masks, operation by operation: what an automaton of normal words is made of.

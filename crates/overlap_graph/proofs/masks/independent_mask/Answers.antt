@@ -1,4 +1,4 @@
-use Rattle.std.proofs.Common.{◌≡◌, true, false, not, ap, sym, subst, ◌∙◌, arith}
+use Rattle.std.proofs.Common.{◌≡◌, true, false, ap, sym, subst, ◌∙◌, arith}
 use Rattle.plant_model.specs.Parts.{op_count_of}
 use Rattle.plant_model.specs.Relations.{independent_of}
 use Rattle.overlap_graph.specs.Sets.{set_of}
@@ -6,18 +6,17 @@ use Rattle.overlap_graph.specs.Independence.{independent_mask_of, IsIndependentS
 use Rattle.overlap_graph.proofs.SetLaws.{set_step}
 use Rattle.overlap_graph.proofs.GraphLaws.{independent_set}
 use Rattle.overlap_graph.proofs.masks.independent_mask.Goals as goal
-use Rattle.overlap_graph.proofs.masks.independent_mask.Goals.{then-not-ordered, else-not-ordered}
+use Rattle.overlap_graph.proofs.masks.independent_mask.Goals.{then-is_independent, else-is_independent}
 
 pub loop-w-preserved : goal.loop-w-preserved
-unfolding independent_of
 loop-w-preserved c =
     let test = independent_of c.args.plant.now c.args.v in
-    elim c.if-not-ordered.branch [
-      | then-not-ordered w ↦
-          set_step c.loop-w.w test c.loop-w.mask c.if-not-ordered.mask true c.loop-w.invariant (ap not (sym w.if-not-ordered.ensures.value))
+    elim c.if-is_independent.branch [
+      | then-is_independent w ↦
+          set_step c.loop-w.w test c.loop-w.mask c.if-is_independent.mask true c.loop-w.invariant (sym w.if-is_independent.ensures)
           (w.mask-is ∙ w.with_member-mask.ensures)
-      | else-not-ordered w ↦
-          set_step c.loop-w.w test c.loop-w.mask c.if-not-ordered.mask false c.loop-w.invariant (ap not (sym w.if-not-ordered.ensures.value)) w.mask-is
+      | else-is_independent w ↦
+          set_step c.loop-w.w test c.loop-w.mask c.if-is_independent.mask false c.loop-w.invariant (sym w.if-is_independent.ensures) w.mask-is
     ]
 
 whole : (c : goal.After-loop-w) → c.loop-w.mask ≡ independent_mask_of c.args.plant.now c.args.v
