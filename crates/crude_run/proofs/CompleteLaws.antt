@@ -18,7 +18,7 @@ use Rattle.crude_run.specs.Words.{line_words, IsPlainLine}
 use Rattle.crude_run.specs.Files.{Files, bytes, failed, longer}
 use Rattle.crude_run.specs.Solving.{status_of, Solves}
 use Rattle.crude_run.specs.Checking.{Checks}
-use Rattle.crude_run.specs.Replaying.{IsReplay, Replays, Shows}
+use Rattle.crude_run.specs.Replaying.{Replays, Shows}
 use Rattle.crude_run.specs.Answered.{OfPlant, OfFile, OfPlantFile, Serves, CallsFor, Outlet, Answered}
 use Rattle.crude_run.specs.Completeness.{IsAtHand, IsPlantAtHand, NoWriteFailed, HasDossierStatus, HasVerdictStatus, HasReplayStatus, HasShownStatus, IsComplete}
 

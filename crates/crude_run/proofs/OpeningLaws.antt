@@ -1,8 +1,6 @@
 -- What the reads of a command may have given, carried over its other reads.
 use Rattle.std.proofs.Common.{ℕ, List, Option, Result, Ok, Err, sym, subst, arith}
 use Rattle.plant_model.specs.declared.parts.Parts.{Parts}
-use Rattle.plant_text.specs.declared.fault.PlantTextFault.{PlantTextFault}
-use Rattle.plant_text.specs.declared.fault.PlantTextFault.TheVariants as fault
 use Rattle.plant_text.specs.PlantText.{plant_of}
 use Rattle.crude_run.specs.declared.answer.Answer.{Answer}
 use Rattle.crude_run.specs.declared.opening.Stop.{Stop}
