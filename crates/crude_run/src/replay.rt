@@ -8,8 +8,7 @@ ghost use Rattle.crude_run.specs.Hidden.{HidesNoFault};
 ghost use Rattle.crude_run.specs.Stopping.{IfDue, ShowsFaults};
 
 use crate::answer::{Answer, illegal, legal, plan_refused};
-use crate::files::PLAN_FILE;
-use crate::opening::{Stop, open_file, open_plant};
+use crate::opening::{Stop, open_both};
 use crate::send::finish;
 use crate::status::Status;
 use limits::PLAN_FILE_LIMIT;
@@ -48,9 +47,8 @@ fn replay_both<H: Shelf>(
         (Serves (Replay plant.now plan.now) (files_between H.told H.faults H.longs shelf.old shelf.new)) }
     ensures shown { ShowsFaults (files_between H.told H.faults H.longs shelf.old shelf.new) result }
 {
-    let plant = open_plant(alloc, plant, shelf)?;
-    let bytes = open_file(alloc, PLAN_FILE, plan, PLAN_FILE_LIMIT, shelf)?;
-    let answer = replay_text(alloc, &plant, &bytes)?;
+    let opened = open_both(alloc, plant, plan, PLAN_FILE_LIMIT, shelf)?;
+    let answer = replay_text(alloc, &opened.plant, &opened.bytes)?;
     Ok(answer)
 }
 
