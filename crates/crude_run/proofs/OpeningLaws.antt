@@ -93,9 +93,12 @@ plant_anywhere Then Other goes (Err fault.Memory) answer owed = owed
 both_anywhere : (files : Files) (name other : List ℕ) (limit : ℕ) (Then : Parts → List ℕ → Answer → Type 0) (answer : Answer) →
     OfPlantFile files name (λ plant. OfFile files 2 other limit NoAnswer) answer →
     OfPlantFile files name (λ plant. OfFile files 2 other limit (Then plant)) answer
-both_anywhere files name other limit Then answer (bytes text, may, owed) =
-    (bytes text, may, plant_anywhere _ _ (λ parts due second. (second.0, second.1, read_anywhere 2 (Then parts) second.0 due second.2)) (plant_of text) answer
-    owed)
+both_anywhere files name other limit Then answer (bytes text, may, owed) = (
+  bytes text,
+  may,
+  plant_anywhere _ _ (λ parts due second. (second.0, second.1, read_anywhere 2 (Then parts) second.0 due second.2)) (plant_of text) answer
+      owed,
+)
 both_anywhere files name other limit Then answer (failed, may, owed) = (failed, may, owed)
 both_anywhere files name other limit Then answer (longer, may, owed) = (longer, may, owed)
 

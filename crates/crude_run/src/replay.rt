@@ -1,8 +1,9 @@
-ghost use Rattle.std.specs.Prelude.{◌≤◌, ◌⊎◌, length, IfOk};
+ghost use Rattle.std.specs.Prelude.{◌≤◌, ◌⊎◌, ℕ, List, length, IfOk};
 ghost use Rattle.limits.specs.declared.TheConstants.{MOST_STEPS};
 ghost use Rattle.crude_run.specs.declared.words.Command.TheVariants.{Replay};
 ghost use Rattle.crude_run.specs.Files.{files_between};
-ghost use Rattle.crude_run.specs.Replaying.{IsLegalReplay, IsIllegalReplay, Replays};
+ghost use Rattle.plant_model.specs.declared.parts.Parts.{Parts};
+ghost use Rattle.crude_run.specs.Replaying.{IsLegalReplay, IsIllegalReplay, Replays, HasOneAnswer};
 ghost use Rattle.crude_run.specs.Answered.{Serves, Answered, outlet_between};
 ghost use Rattle.crude_run.specs.Hidden.{HidesNoFault};
 ghost use Rattle.crude_run.specs.Stopping.{IfDue, ShowsFaults};
@@ -13,7 +14,7 @@ use crate::send::finish;
 use crate::status::Status;
 use limits::PLAN_FILE_LIMIT;
 use outer_edge::{Shelf, Sink};
-use plan_text::{PlanTextFault, ledger, read_plan};
+use plan_text::{PlanTextFault, ledger, plan_text_laws, read_plan};
 use plant_model::Plant;
 use replay_core::{ReplayFault, Timed};
 use std::alloc::{AllocError, Global};
@@ -74,4 +75,11 @@ fn replay_plan(alloc: Global, plant: &Plant, plan: &[Timed]) -> Result<Answer, A
         Err(ReplayFault::Rule(broken)) => illegal(alloc, broken),
         Err(ReplayFault::Memory) => Err(AllocError),
     }
+}
+
+/// To the bytes of a plan `replay` has one answer. It does nothing when it runs.
+pub fn replay_laws()
+    ensures { (parts : Parts) (bytes : List ℕ) → HasOneAnswer parts bytes }
+{
+    plan_text_laws();
 }
