@@ -18,7 +18,7 @@ use Rattle.crude_run.specs.Words.{line_words, IsPlainLine}
 use Rattle.crude_run.specs.Files.{Files, bytes, failed, longer}
 use Rattle.crude_run.specs.Solving.{status_of, Solves}
 use Rattle.crude_run.specs.Checking.{Checks}
-use Rattle.crude_run.specs.Replaying.{IsReplay, Replays, Shows}
+use Rattle.crude_run.specs.Replaying.{Replays, Shows}
 use Rattle.crude_run.specs.Answered.{OfPlant, OfFile, OfPlantFile, Serves, CallsFor, Outlet, Answered}
 use Rattle.crude_run.specs.Completeness.{IsAtHand, IsPlantAtHand, NoWriteFailed, HasDossierStatus, HasVerdictStatus, HasReplayStatus, HasShownStatus, IsComplete}
 
@@ -56,22 +56,32 @@ same_command one words (Solve plant ask) (Solve other asked) first second =
     ap₂ Solve (same_plant words plant other ask asked first second) (same_ask one words plant other ask asked first second)
 same_command one words (Check plant dossier) (Check other another) first second =
     let both : line_words (Check other another) ≡ line_words (Check plant dossier) = sym second.0 ∙ first.0 in cc
-same_command one words (Solve plant ask) (Check other another) first second = apart words (Solve plant ask) (Check other another) (λ counts. omega (arith, counts)) first second
-same_command one words (Solve plant ask) (Replay other another) first second = apart words (Solve plant ask) (Replay other another) (λ counts. omega (arith, counts)) first second
-same_command one words (Solve plant ask) (Show other) first second = apart words (Solve plant ask) (Show other) (λ counts. omega (arith, counts)) first second
-same_command one words (Check plant dossier) (Solve other asked) first second = apart words (Check plant dossier) (Solve other asked) (λ counts. omega (arith, counts)) first second
+same_command one words (Solve plant ask) (Check other another) first second =
+    apart words (Solve plant ask) (Check other another) (λ counts. omega (arith, counts)) first second
+same_command one words (Solve plant ask) (Replay other another) first second =
+    apart words (Solve plant ask) (Replay other another) (λ counts. omega (arith, counts)) first second
+same_command one words (Solve plant ask) (Show other) first second =
+    apart words (Solve plant ask) (Show other) (λ counts. omega (arith, counts)) first second
+same_command one words (Check plant dossier) (Solve other asked) first second =
+    apart words (Check plant dossier) (Solve other asked) (λ counts. omega (arith, counts)) first second
 same_command one words (Check plant dossier) (Replay other another) first second =
     let both : line_words (Replay other another) ≡ line_words (Check plant dossier) = sym second.0 ∙ first.0 in absurd cc
-same_command one words (Check plant dossier) (Show other) first second = apart words (Check plant dossier) (Show other) (λ counts. omega (arith, counts)) first second
-same_command one words (Replay plant plan) (Solve other asked) first second = apart words (Replay plant plan) (Solve other asked) (λ counts. omega (arith, counts)) first second
+same_command one words (Check plant dossier) (Show other) first second =
+    apart words (Check plant dossier) (Show other) (λ counts. omega (arith, counts)) first second
+same_command one words (Replay plant plan) (Solve other asked) first second =
+    apart words (Replay plant plan) (Solve other asked) (λ counts. omega (arith, counts)) first second
 same_command one words (Replay plant plan) (Check other another) first second =
     let both : line_words (Check other another) ≡ line_words (Replay plant plan) = sym second.0 ∙ first.0 in absurd cc
 same_command one words (Replay plant plan) (Replay other another) first second =
     let both : line_words (Replay other another) ≡ line_words (Replay plant plan) = sym second.0 ∙ first.0 in cc
-same_command one words (Replay plant plan) (Show other) first second = apart words (Replay plant plan) (Show other) (λ counts. omega (arith, counts)) first second
-same_command one words (Show plant) (Solve other asked) first second = apart words (Show plant) (Solve other asked) (λ counts. omega (arith, counts)) first second
-same_command one words (Show plant) (Check other another) first second = apart words (Show plant) (Check other another) (λ counts. omega (arith, counts)) first second
-same_command one words (Show plant) (Replay other another) first second = apart words (Show plant) (Replay other another) (λ counts. omega (arith, counts)) first second
+same_command one words (Replay plant plan) (Show other) first second =
+    apart words (Replay plant plan) (Show other) (λ counts. omega (arith, counts)) first second
+same_command one words (Show plant) (Solve other asked) first second =
+    apart words (Show plant) (Solve other asked) (λ counts. omega (arith, counts)) first second
+same_command one words (Show plant) (Check other another) first second =
+    apart words (Show plant) (Check other another) (λ counts. omega (arith, counts)) first second
+same_command one words (Show plant) (Replay other another) first second =
+    apart words (Show plant) (Replay other another) (λ counts. omega (arith, counts)) first second
 same_command one words (Show plant) (Show other) first second =
     let both : line_words (Show other) ≡ line_words (Show plant) = sym second.0 ∙ first.0 in cc
 

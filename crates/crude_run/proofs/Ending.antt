@@ -1,5 +1,5 @@
 -- How a run ends that owed an answer.
-use Rattle.std.proofs.Common.{◌<◌, ℕ, List, Result, Ok, Err, inl, inr, sym, subst, arith}
+use Rattle.std.proofs.Common.{◌<◌, ℕ, List, Result, Ok, Err, inl, inr, arith}
 use Rattle.plant_model.specs.declared.parts.Parts.{Parts}
 use Rattle.plant_text.specs.declared.fault.PlantTextFault.{PlantTextFault}
 use Rattle.plant_text.specs.declared.fault.PlantTextFault.TheVariants as fault
@@ -7,16 +7,13 @@ use Rattle.plant_text.specs.PlantText.{plant_of}
 use Rattle.dossier_text.specs.declared.dossier.Word3.{Word3}
 use Rattle.dossier_text.specs.declared.dossier.Word3.TheVariants.{Plan, Infeasible, Open3}
 use Rattle.crude_run.specs.declared.answer.Answer.{Answer}
-use Rattle.crude_run.specs.declared.opening.Stop.{Stop}
-use Rattle.crude_run.specs.declared.opening.Stop.TheVariants as stop
 use Rattle.crude_run.specs.declared.words.Command.{Command}
 use Rattle.crude_run.specs.declared.words.Command.TheVariants.{Solve, Check, Replay, Show}
 use Rattle.crude_run.specs.Files.{Files, FileRead, bytes, failed, longer}
 use Rattle.crude_run.specs.Solving.{status_of, Solves}
 use Rattle.crude_run.specs.Checking.{Checks}
 use Rattle.crude_run.specs.Replaying.{IsReplay, Replays, Shows}
-use Rattle.crude_run.specs.Answered.{OfPlant, OfRead, Serves, Outlet, Answered}
-use Rattle.crude_run.specs.Stopping.{IfDue, IsDue}
+use Rattle.crude_run.specs.Answered.{OfPlant, OfRead, Serves}
 
 -- ---- statuses
 

@@ -1,5 +1,5 @@
 -- The dossier of what a search has found answers what was asked.
-use Rattle.std.proofs.Common.{◌≡◌, ℕ, ℤ, inl, inr, ◌+◌, ◌<◌, ◌≤◌, ◌≤ℤ◌, ◌<ℤ◌, Option, Some, None, List, [], ◌∷◌, ◌++◌, length, refl, sym, ap, ◌∙◌, subst, arith, FitsSigned, w64}
+use Rattle.std.proofs.Common.{◌≡◌, ℕ, ℤ, inl, inr, ◌+◌, ◌<◌, ◌≤◌, ◌≤ℤ◌, Option, Some, None, List, [], ◌∷◌, ◌++◌, length, refl, sym, ap, ◌∙◌, subst, arith, FitsSigned, w64}
 use Rattle.std.specs.Prelude.{◌⊎◌, IfSome, All}
 use Rattle.std.proofs.lemmas.Int.{ints}
 use Rattle.std.proofs.lemmas.List.{length-map}

@@ -1,5 +1,5 @@
 -- How the words of a line stand to the line that they are.
-use Rattle.std.proofs.Common.{◌≡◌, ℕ, Bool, true, false, List, [], ◌∷◌, length, map, string_bytes, ap, get_or, Option, Some, None, String, refl, arith}
+use Rattle.std.proofs.Common.{◌≡◌, ℕ, Bool, true, false, List, [], ◌∷◌, length, ap, get_or, Option, Some, None, String, refl, arith}
 use Rattle.std.specs.Prelude.{◌&&◌, IsTrue, codes, IfSome, IfNone}
 use Rattle.std.specs.Borrow.{Bor}
 use Rattle.std.specs.Str.{bytes_eq}
@@ -8,7 +8,7 @@ use Rattle.std.proofs.lemmas.Bool.{and_from}
 use Rattle.std.proofs.lemmas.Slice.Eq.{bytes_eq-Decides}
 use Rattle.crude_run.specs.declared.words.Ask.{Ask}
 use Rattle.crude_run.specs.declared.words.Command.TheVariants.{Solve, Check, Replay, Show}
-use Rattle.crude_run.specs.Words.{is_file_word, IsPlainLine, AreRefused}
+use Rattle.crude_run.specs.Words.{is_file_word, AreRefused}
 use Rattle.crude_run.specs.WordReading.{is_solve, IsAskOf, IsSolveLine, NameTwoFiles, NameOneFile, names_two_files, names_one_file}
 
 -- eight words, by their places

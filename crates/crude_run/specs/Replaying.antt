@@ -43,3 +43,8 @@ Replays parts bytes answer = IsReplay parts bytes answer ⊎ IsNoPlan bytes answ
 -- what `show` answers: the one text of the plant
 abbrev pub Shows : Parts → Answer → Type 0
 Shows parts answer = answer ≡ shown parts
+
+-- that is one answer: a law
+abbrev pub HasOneAnswer : Parts → List ℕ → Type 0
+HasOneAnswer parts bytes =
+    (answer other : Answer) → Replays parts bytes answer → Replays parts bytes other → answer ≡ other

@@ -40,6 +40,11 @@ pub record MayGivePlant (files : Files) (name : List ℕ) (parts : Parts) : Type
   pub may : MayGive files name plant_limit (bytes file)
   pub is : plant_of file ≡ Ok parts
 
+-- the plant file may have given this plant, and the second file these bytes
+pub record MayGiveBoth (files : Files) (name other : List ℕ) (limit : ℕ) (parts : Parts) (found : List ℕ) : Type 0 where
+  pub plant : MayGivePlant files name parts
+  pub second : MayGive files other limit (bytes found)
+
 -- a stop with the answer, where there was memory for it
 abbrev pub stop_of : Result Answer AllocError → Stop
 stop_of (Ok answer) = Due answer

@@ -7,8 +7,7 @@ ghost use Rattle.crude_run.specs.Hidden.{HidesNoFault};
 ghost use Rattle.crude_run.specs.Stopping.{IfDue, ShowsFaults};
 
 use crate::answer::{Answer, accepted, not_accepted};
-use crate::files::DOSSIER_FILE;
-use crate::opening::{Stop, open_file, open_plant};
+use crate::opening::{Stop, open_both};
 use crate::send::finish;
 use crate::status::Status;
 use dossier_check::{Verdict, check};
@@ -46,9 +45,8 @@ fn check_both<H: Shelf>(
         (Serves (Check plant.now dossier.now) (files_between H.told H.faults H.longs shelf.old shelf.new)) }
     ensures shown { ShowsFaults (files_between H.told H.faults H.longs shelf.old shelf.new) result }
 {
-    let plant = open_plant(alloc, plant, shelf)?;
-    let bytes = open_file(alloc, DOSSIER_FILE, dossier, DOSSIER_FILE_LIMIT, shelf)?;
-    let answer = check_text(alloc, &plant, &bytes)?;
+    let opened = open_both(alloc, plant, dossier, DOSSIER_FILE_LIMIT, shelf)?;
+    let answer = check_text(alloc, &opened.plant, &opened.bytes)?;
     Ok(answer)
 }
 

@@ -5,9 +5,9 @@
 //! `Answered` says how a run ends, `CallsFor` what the words call for, and `Serves` what a command
 //! answers by its files. What `solve` owes of a plant is in `specs/Solving.antt`: an accepted dossier,
 //! what it claims, and that it keeps the budget of inner nodes (`leaf_value`). What `check` owes of a dossier is in
-//! `specs/Checking.antt`. That no fault of the shelf or the sink stays hidden is in `specs/Hidden.antt`.
-//! From there the way leads down to plans, boxes and their values. The search itself is `box_search`;
-//! here its finding becomes a dossier.
+//! `specs/Checking.antt`, what `replay` owes of a plan and `show` of a plant in `specs/Replaying.antt`. That no
+//! fault of the shelf or the sink stays hidden is in `specs/Hidden.antt`. From there the way leads down to plans,
+//! boxes and their values. The search itself is `box_search`; here its finding becomes a dossier.
 #![tactic(auto)]
 
 mod answer;
@@ -26,7 +26,7 @@ mod words;
 pub use answer::Answer;
 pub use calls::run;
 pub use check::check_files;
-pub use replay::replay_files;
+pub use replay::{replay_files, replay_laws};
 pub use show::show_file;
 pub use solve::{solve_alone, solve_file_alone};
 pub use status::{

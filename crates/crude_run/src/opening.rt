@@ -4,10 +4,10 @@ ghost use Rattle.std.specs.Prelude.{◌≡◌, Ok, IfOk};
 ghost use Rattle.plant_text.specs.PlantText.{plant_of};
 ghost use Rattle.crude_run.specs.Files.{files_between, bytes, MayGive};
 ghost use Rattle.crude_run.specs.Answered.{OfPlant, OfFile, OfPlantFile};
-ghost use Rattle.crude_run.specs.Stopping.{IfStopped, NoAnswer, MayGivePlant, IsLater, ShowsFaults, stop_of};
+ghost use Rattle.crude_run.specs.Stopping.{IfStopped, NoAnswer, MayGivePlant, MayGiveBoth, IsLater, ShowsFaults, stop_of};
 
 use crate::answer::{Answer, fault_refused, json_refused, read_failed, shape_refused, too_long};
-use crate::files::PLANT_FILE;
+use crate::files::{PLANT_FILE, SECOND_FILE};
 use limits::PLANT_FILE_LIMIT;
 use outer_edge::{Shelf, ShelfFault};
 use plant_model::Plant;
@@ -91,4 +91,30 @@ pub(crate) fn open_plant<H: Shelf>(alloc: Global, name: &str, shelf: &mut H) -> 
 {
     let text = open_file(alloc, PLANT_FILE, name, PLANT_FILE_LIMIT, shelf)?;
     plant_of_text(alloc, &text)
+}
+
+/// The plant and the second file of a command that names two.
+#[derive(Drop)]
+pub(crate) struct Opened {
+    pub(crate) plant: Plant,
+    pub(crate) bytes: Vec<u8>,
+}
+
+/// The plant of the plant file, and then the bytes of the second file.
+pub(crate) fn open_both<H: Shelf>(
+    alloc: Global,
+    plant: &str,
+    second: &str,
+    limit: u64,
+    shelf: &mut H,
+) -> Result<Opened, Stop>
+    ensures opened { IfOk result (λ both. MayGiveBoth (files_between H.told H.faults H.longs shelf.old shelf.new)
+        plant.now second.now limit both.plant both.bytes.items) }
+    ensures stopped { let files = files_between H.told H.faults H.longs shelf.old shelf.new in
+        IfStopped result (OfPlantFile files plant.now (λ parts. OfFile files 2 second.now limit NoAnswer)) }
+    ensures shown { ShowsFaults (files_between H.told H.faults H.longs shelf.old shelf.new) result }
+{
+    let plant = open_plant(alloc, plant, shelf)?;
+    let bytes = open_file(alloc, SECOND_FILE, second, limit, shelf)?;
+    Ok(Opened { plant, bytes })
 }

@@ -1,20 +1,20 @@
-ghost use Rattle.std.specs.Prelude.{◌≤◌, ◌⊎◌, length, IfOk};
+ghost use Rattle.std.specs.Prelude.{◌≤◌, ◌⊎◌, ℕ, List, length, IfOk};
 ghost use Rattle.limits.specs.declared.TheConstants.{MOST_STEPS};
 ghost use Rattle.crude_run.specs.declared.words.Command.TheVariants.{Replay};
 ghost use Rattle.crude_run.specs.Files.{files_between};
-ghost use Rattle.crude_run.specs.Replaying.{IsLegalReplay, IsIllegalReplay, Replays};
+ghost use Rattle.plant_model.specs.declared.parts.Parts.{Parts};
+ghost use Rattle.crude_run.specs.Replaying.{IsLegalReplay, IsIllegalReplay, Replays, HasOneAnswer};
 ghost use Rattle.crude_run.specs.Answered.{Serves, Answered, outlet_between};
 ghost use Rattle.crude_run.specs.Hidden.{HidesNoFault};
 ghost use Rattle.crude_run.specs.Stopping.{IfDue, ShowsFaults};
 
 use crate::answer::{Answer, illegal, legal, plan_refused};
-use crate::files::PLAN_FILE;
-use crate::opening::{Stop, open_file, open_plant};
+use crate::opening::{Stop, open_both};
 use crate::send::finish;
 use crate::status::Status;
 use limits::PLAN_FILE_LIMIT;
 use outer_edge::{Shelf, Sink};
-use plan_text::{PlanTextFault, ledger, read_plan};
+use plan_text::{PlanTextFault, ledger, plan_text_laws, read_plan};
 use plant_model::Plant;
 use replay_core::{ReplayFault, Timed};
 use std::alloc::{AllocError, Global};
@@ -48,9 +48,8 @@ fn replay_both<H: Shelf>(
         (Serves (Replay plant.now plan.now) (files_between H.told H.faults H.longs shelf.old shelf.new)) }
     ensures shown { ShowsFaults (files_between H.told H.faults H.longs shelf.old shelf.new) result }
 {
-    let plant = open_plant(alloc, plant, shelf)?;
-    let bytes = open_file(alloc, PLAN_FILE, plan, PLAN_FILE_LIMIT, shelf)?;
-    let answer = replay_text(alloc, &plant, &bytes)?;
+    let opened = open_both(alloc, plant, plan, PLAN_FILE_LIMIT, shelf)?;
+    let answer = replay_text(alloc, &opened.plant, &opened.bytes)?;
     Ok(answer)
 }
 
@@ -76,4 +75,11 @@ fn replay_plan(alloc: Global, plant: &Plant, plan: &[Timed]) -> Result<Answer, A
         Err(ReplayFault::Rule(broken)) => illegal(alloc, broken),
         Err(ReplayFault::Memory) => Err(AllocError),
     }
+}
+
+/// To the bytes of a plan `replay` has one answer. It does nothing when it runs.
+pub fn replay_laws()
+    ensures { (parts : Parts) (bytes : List ℕ) → HasOneAnswer parts bytes }
+{
+    plan_text_laws();
 }

@@ -112,7 +112,8 @@ fn file_name(alloc: Global, word: &str) -> Result<FileName, AllocError>
 
 /// The two files that the words name behind this verb, where they are a verb and two files.
 fn two_files<'a>(words: &'a [String], verb: &str) -> Option<(&'a str, &'a str)>
-    ensures found { IfSome result (λ files. NameTwoFiles verb.now (map string_bytes words.now) files.0.now files.1.now) }
+    ensures found { IfSome result (λ files.
+        NameTwoFiles verb.now (map string_bytes words.now) files.0.now files.1.now) }
     ensures none { IfNone result ((first second : List ℕ)
         → NameTwoFiles verb.now (map string_bytes words.now) first second → ⊥) }
 {

@@ -51,8 +51,8 @@ pub AreOpLines-push : (number : ℕ) (lines : List OpLine) (line : OpLine) → A
 AreOpLines-push number [] line are is form = (omega arith, form, tt)
 AreOpLines-push number (first ∷ lines) line are is form = (are.0, are.1, AreOpLines-push (number + 1) lines line are.2 (omega arith) form)
 
-begins : (number : ℕ) (line : OpLine) (lines : List OpLine) (after rest : List ℕ) → AreOpLines number (line ∷ lines) → rest ≡ lines_bytes (line ∷ lines) ++ after
-    → BeginsWithLine number rest
+begins : (number : ℕ) (line : OpLine) (lines : List OpLine) (after rest : List ℕ) → AreOpLines number (line ∷ lines) →
+    rest ≡ lines_bytes (line ∷ lines) ++ after → BeginsWithLine number rest
 begins number line lines after rest are text = record {
   line = line;
   after = lines_bytes lines ++ after;

@@ -103,4 +103,5 @@ pub record IsElsewhere (parts : Parts) (p : ℕ) (t : Timed) : Type 0 where
 abbrev pub TellsEnd : Parts → List Timed → Timed → List Timed → Type 0
 TellsEnd parts before t later =
     (p : ℕ) → All (IsElsewhere parts p) later →
-    place_words parts (state_after parts (before ++ t ∷ [])) p ≡ place_words parts (state_after parts (before ++ t ∷ later)) p
+    place_words parts (state_after parts (before ++ t ∷ [])) p
+    ≡ place_words parts (state_after parts (before ++ t ∷ later)) p

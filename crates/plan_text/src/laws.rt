@@ -13,6 +13,8 @@ pub fn plan_text_laws()
 /// nothing when it runs.
 pub fn ledger_laws()
     ensures margin { (parts : Parts) (plan : List Timed) → TellsMargin parts plan }
-    ensures steps { (parts : Parts) (before : List Timed) (t : Timed) (later : List Timed) → TellsStep parts before t later }
-    ensures ends { (parts : Parts) (before : List Timed) (t : Timed) (later : List Timed) → TellsEnd parts before t later }
+    ensures steps { (parts : Parts) (before : List Timed) (t : Timed) (later : List Timed)
+        → TellsStep parts before t later }
+    ensures ends { (parts : Parts) (before : List Timed) (t : Timed) (later : List Timed)
+        → TellsEnd parts before t later }
 {}

@@ -65,7 +65,8 @@ fn push_holding(out: &mut Vec<u8>, amounts: &Amounts) -> Result<(), AllocError>
 
 /// Writes the line of what an operation draws.
 fn write_draw(out: &mut Vec<u8>, drawn: &Amounts) -> Result<(), AllocError>
-    ensures { OnOk result (out.new.items ≡ out.old.items ++ (line_of (codes "draw" ∷ map decimal drawn.now) ++ 10 ∷ [])) }
+    ensures { OnOk result (out.new.items
+        ≡ out.old.items ++ (line_of (codes "draw" ∷ map decimal drawn.now) ++ 10 ∷ [])) }
 {
     push_text(out, b"draw")?;
     push_amounts(out, drawn)?;

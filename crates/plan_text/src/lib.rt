@@ -1,13 +1,19 @@
-//! The text of plans: one line for each operation.
+//! The text of plans, and the ledger of a plan that is legal.
 //!
-//! A line names an operation by its number in the plan and by its name, and says when it starts, when it
-//! ends, and how much it moves. To the crates above this crate promises that [`push_op_line`] adds the one
-//! text of a line at the end, or nothing where memory runs out, and that [`read_op_line`], unless memory
-//! runs out, answers a line in range of which the bytes are the text, exactly where there is one. Whether a
-//! plan numbers its lines in order, and whether the plant has such operations, is asked above.
+//! A plan is told by a line for each operation: its number in the plan and its name, when it starts and ends, and how
+//! much it moves. Its ledger tells how it runs: what each operation draws, what its places hold once it has run, and
+//! what each unit gets.
 //!
-//! Begin with `specs/OpLine`: the words of a line, which lines are in range, and how a line is read word by
-//! word. Then read `op_line`.
+//! To the crates above this crate promises that [`read_plan`] reads the text of a plan as that plan, and any other
+//! bytes as the first line that is none of a plan; that [`print_plan`] gives the one text of a plan, and that bytes
+//! are read in one way ([`plan_text_laws`]). [`ledger`] gives the ledger exactly of a legal plan, and else names the
+//! first rule that is broken; what every ledger tells is in [`ledger_laws`]. [`push_op_line`] adds the one text of a
+//! line at the end, or nothing where memory runs out, and [`read_op_line`] answers a line in range of which the bytes
+//! are the text, exactly where there is one.
+//!
+//! Begin with `specs/OpLine` (the words of a line), `specs/Plans` (which operation a line is) and `specs/PlanText`
+//! (which bytes are a plan, and which line is the first that is none); then read `op_line` and `plan`. The ledger is
+//! in `specs/Ledger`, as a text of the replay, and `ledger_text` writes it while the plan runs.
 #![tactic(auto)]
 
 mod fault;

@@ -1,4 +1,3 @@
-use Rattle.std.proofs.Common.{Ok}
 use Rattle.crude_run.specs.Files.{files_between}
 use Rattle.crude_run.specs.Replaying.{Shows}
 use Rattle.crude_run.proofs.OpeningLaws.{of_plant}

@@ -22,4 +22,5 @@ returns-in_err-write_step-clause-broken c =
     let t : Timed = get_or plan c.loop-i.i none in
     let steps = ap (λ (r : Replayed). r.steps) c.loop-i.invariant.ran in
     let breaks = subst (λ (xs : List Timed). BreaksStep parts xs t fault) steps c.in_err-write_step.ensures.broken in
-    rw (answer.1, answer.2) (refused_at parts plan c.loop-i.i t fault c.loop-i-test.true (get_or_default plan c.loop-i.i none t c.loop-i-test.true) c.loop-i.invariant.can_run breaks)
+    rw (answer.1, answer.2) (refused_at parts plan c.loop-i.i t fault c.loop-i-test.true (get_or_default plan c.loop-i.i none t c.loop-i-test.true)
+    c.loop-i.invariant.can_run breaks)
