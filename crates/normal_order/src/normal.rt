@@ -41,7 +41,8 @@ fn seat(plant: &Plant, steps: &[Timed], op: u8) -> usize
     seat
 }
 
-/// Whether an operation stands behind another that it joins last: it depends on it, or is no less, where nothing greater
+/// Whether an operation stands behind another that it joins last: it depends on it, or is no less, where nothing
+/// greater
 /// was there before that it could have come ahead of.
 #[tactic(auto, unfolding(plant_model::specs::Relations::independent_of))]
 fn stands_behind(plant: &Plant, op: u8, other: u8, none_greater: bool) -> bool

@@ -1,4 +1,5 @@
--- Cliques: sets of operations of which no two may run at one moment. They are chosen so that each such pair lies in one.
+-- Cliques: sets of operations of which no two may run at one moment. They are chosen so that each such pair lies in
+-- one.
 use Rattle.std.specs.Prelude.{◌≡◌, ℕ, ◌-◌, ◌<◌, map, length, slice_index, true, not, ◌&&◌, if◌then◌else◌, List, [], ◌∷◌, ◌++◌, fold, All, IsBitSet}
 use Rattle.std.specs.List.{list_any, range_with_len}
 use Rattle.plant_model.specs.declared.parts.Parts.{Parts}

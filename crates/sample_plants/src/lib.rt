@@ -106,7 +106,8 @@ impl OneCharge {
 }
 
 /// The parts of a plant of 4 minutes and one crude that earns 1: `T1` and `T2` fill tank `C1`, which holds 2, from `S1`
-/// and `S2`, which hold 5 each, and `G` charges the unit from it; each moves 1 to 10 volume units, ten in a minute at most.
+/// and `S2`, which hold 5 each, and `G` charges the unit from it; each moves 1 to 10 volume units, ten in a minute at
+/// most.
 pub fn two_inlets(alloc: Global) -> Result<Parts, AllocError> {
     let sample = OneCharge {
         margin: 1,
