@@ -155,9 +155,8 @@ pub struct Berthed {
 }
 
 /// The parts of a plant in which each vessel brings 4 volume units of crude `A`: `u1` may move 1 to 4 of the first
-/// one's
-/// from its arrival on to tank `S1`, at most two in a minute, `u2` those of the second one to `S2`, and so on to the
-/// ninth.
+/// one's from its arrival on to tank `S1`, at most two in a minute, `u2` those of the second one to `S2`, and so on to
+/// the ninth.
 pub fn unloading(alloc: Global, horizon: i64, berthed: &[Berthed]) -> Result<Parts, AllocError> {
     let mut parts = Parts {
         horizon,
