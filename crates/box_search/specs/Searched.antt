@@ -16,8 +16,7 @@ abbrev pub best_margin : Option Planned → Option ℤ
 best_margin best = option_map (λ (planned : Planned). planned.margin) best
 
 -- the tree is one that a dossier may give, for the plain case of n slots; the bound is the greatest value of a leaf,
--- and
--- the best plan, where one was found, is legal and has at most n operations; the tree keeps to the budget
+-- and the best plan, where one was found, is legal and has at most n operations; the tree keeps to the budget
 pub record IsFound (parts : Parts) (n budget : ℕ) (found : Found) : Type 0 where
   pub inner : inner_count found.tree ≡ found.tickets
   pub nodes : length found.tree ≡ 2 * found.tickets + 1

@@ -29,8 +29,7 @@ abbrev pub NoWriteFailed : Outlet → Type 0
 NoWriteFailed outlet = Rose outlet.faults_before outlet.faults_after → ⊥
 
 -- the status is that of a dossier, or memory was wanting; that no plan was found it says only with a budget that cannot
--- single
--- out each point of the root box
+-- single out each point of the root box
 abbrev pub HasDossierStatus : Parts → Ask → ℕ → Type 0
 HasDossierStatus parts ask status =
     (status ≡ status_plan_found) ⊎ (status ≡ status_infeasible)

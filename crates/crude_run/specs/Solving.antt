@@ -24,8 +24,7 @@ status_of Infeasible = status_infeasible
 status_of Open3 = status_none_found
 
 -- a dossier that answers what was asked: plans of at most n operations, by a tree of at most the budget's number of
--- inner
--- nodes
+-- inner nodes
 pub record IsSolution (parts : Parts) (n budget : ℕ) (dossier : Dossier) : Type 0 where
   pub slots : dossier.slots ≡ n
   -- its text is read again as the dossier, and its plan's lines are a plan text
@@ -38,8 +37,7 @@ pub record IsSolution (parts : Parts) (n budget : ℕ) (dossier : Dossier) : Typ
   -- as many nodes are inner as it says
   pub inner : inner_count dossier.tree ≡ dossier.nodes
   -- a leaf is left open only where all that the budget allows were divided, and any other has no value above the margin
-  -- of
-  -- the plan, or none at all where there is no plan
+  -- of the plan, or none at all where there is no plan
   pub budget_kept : KeepsBudget (plain_setting parts n) budget dossier.tree dossier.margin
   -- so its bound is the margin unless all were divided
   pub bound : dossier.answer ≡ Plan → dossier.nodes < budget → dossier.bound ≡ dossier.margin

@@ -25,8 +25,7 @@ AreOpLines number [] = Unit {0}
 AreOpLines number (line ∷ lines) = (line.number ≡ number) × IsOpLine line × AreOpLines (number + 1) lines
 
 -- a dossier that can be read: inner nodes, operations and cuts within their limits, the operations numbered from 1, and
--- one leaf more than
--- inner nodes
+-- one leaf more than inner nodes
 pub record IsReadable (dossier : Dossier) : Type 0 where
   pub slots : dossier.slots < 2 ^ 32
   pub nodes : dossier.nodes ≤ MOST_NODES

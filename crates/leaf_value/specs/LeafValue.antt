@@ -20,8 +20,7 @@ abbrev pub dual_value_of : Setting → List Slot → ℕ → List Term → ℤ
 dual_value_of setting box q terms = pos (plain_value_of setting.case.parts box)
 
 -- the value of a leaf over its box: the dual value of its entries, or the value of its one point; none where it is
--- shown that
--- no form that is sought lies in the box
+-- shown that no form that is sought lies in the box
 abbrev pub leaf_value_of : Setting → List Slot → Leaf → Option ℤ
 leaf_value_of setting box (Dead at) = None
 leaf_value_of setting box (Void terms) = None
@@ -74,8 +73,7 @@ pub record Reaches (found : Option ℤ) (margin : ℤ) : Type 0 where
   pub most : margin ≤ℤ value
 
 -- over a box with the slots of the case, a lawful leaf whose box has a lawful form that is sought has a value, which is
--- no
--- less than the form's margin
+-- no less than the form's margin
 abbrev pub LeavesReachForms : Setting → Type 0
 LeavesReachForms setting =
     (box : List Slot) (leaf : Leaf) (point : List Entry) → IsBox box → length box ≡ setting.case.slots →

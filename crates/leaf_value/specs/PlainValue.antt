@@ -15,8 +15,7 @@ use Rattle.slot_forms.specs.Cases.{Case}
 use Rattle.slot_forms.specs.Forms.{word_of, is_lawful_form}
 
 -- what operation v can add in a slot: only a charge that is live there earns, and at most as much as if nothing tied
--- what it
--- draws of one crude to what it draws of another
+-- what it draws of one crude to what it draws of another
 abbrev pub op_value : Parts → Slot → ℕ → ℕ
 op_value parts slot v = if is_charge (op_of parts v).kind
     && bit_at (live_of slot) v == 1 then greatest_gain_of parts slot.volume.hi else 0

@@ -29,13 +29,11 @@ has_cut_row setting cut slot op = false
 -- ---- boxes in which nothing is sought: so far none is shown to be one
 
 -- the first slots of the box, as far as the slot of this number, are fixed to operations with which no form begins that
--- is
--- sought; without the last of them some do
+-- is sought; without the last of them some do
 abbrev pub is_blocked : Setting → List Slot → ℕ → Bool
 is_blocked setting box at = false
 
 -- no lawful form in the box meets the rows of these entries, since they contradict each other where each is taken as
--- often
--- as its multiplier says
+-- often as its multiplier says
 abbrev pub are_contradictory : Setting → List Slot → List Term → Bool
 are_contradictory setting box terms = false

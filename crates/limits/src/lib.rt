@@ -2,8 +2,8 @@
 //!
 //! To the crates above this crate promises only its numbers: what a plant, a plan, a search, a dossier or a file
 //! may come to at most. Clauses and definitions cite a limit by its name from here, so that it stands in one place and
-//! a reader finds it by its word; a number that only keeps arithmetic within its width stands where it is used. Minutes,
-//! volume units and margins are meant where a line does not say otherwise.
+//! a reader finds it by its word; a number that only keeps arithmetic within its width stands where it is used.
+//! Minutes, volume units and margins are meant where a line does not say otherwise.
 //!
 //! Begin with the plant's, which the other limits follow from.
 #![tactic(auto)]

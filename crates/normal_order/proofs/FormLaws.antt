@@ -32,7 +32,8 @@ all_seated parts word = fold (with_seated parts) [] word
 
 seated_known : (parts : Parts) (done : List Timed) (t : Timed) → AreKnown parts done → t.op < op_count_of parts → AreKnown parts (seated parts t done)
 seated_known parts done t known here =
-    All-permutation (λ (r : Timed). r.op < op_count_of parts) (done ++ t ∷ []) (seated parts t done) (same_entries parts (done ++ t ∷ []) (seated parts t done) (seated_chain parts t done))
+    All-permutation (λ (r : Timed). r.op < op_count_of parts) (done ++ t ∷ []) (seated parts t done)
+    (same_entries parts (done ++ t ∷ []) (seated parts t done) (seated_chain parts t done))
     (All-push (λ (r : Timed). r.op < op_count_of parts) done t known here)
 
 seats_chain : (parts : Parts) (done word : List Timed) → AreEquivalent parts (done ++ word) (fold (with_seated parts) done word)
@@ -43,7 +44,8 @@ seats_chain parts done (t ∷ word) =
     (subst (λ (whole : List Timed). AreEquivalent parts whole (seated parts t done ++ word)) (append_assoc done (t ∷ []) word) first)
     (seats_chain parts (seated parts t done) word)
 
-seats_normal : (parts : Parts) (done word : List Timed) → AreKnown parts done → AreKnown parts word → IsNormalWord parts done → IsNormalWord parts (fold (with_seated parts) done word)
+seats_normal : (parts : Parts) (done word : List Timed) → AreKnown parts done → AreKnown parts word → IsNormalWord parts done →
+    IsNormalWord parts (fold (with_seated parts) done word)
 seats_normal parts done [] known each normal = normal
 seats_normal parts done (t ∷ word) known each normal =
     let here = All-head (λ (r : Timed). r.op < op_count_of parts) t word each in
@@ -92,7 +94,8 @@ all_seated-known parts word k each =
     known_seats parts [] (take k word) (All-nil (λ (r : Timed). r.op < op_count_of parts)) (All-take (λ (r : Timed). r.op < op_count_of parts) k word each)
 
 pub all_seated-more : (parts : Parts) (word : List Timed) (k : ℕ) (d : Timed) → k < length word →
-    all_seated parts (take (k + 1) word) ≡ insert (all_seated parts (take k word)) (seat_of parts (get_or word k d).op (all_seated parts (take k word))) (get_or word k d)
+    all_seated parts (take (k + 1) word) ≡ insert (all_seated parts (take k word)) (seat_of parts (get_or word k d).op (all_seated parts (take k word)))
+    (get_or word k d)
 all_seated-more parts word k d within =
     ap (all_seated parts) (take_more word k d within) ∙ fold-append (with_seated parts) [] (take k word) (get_or word k d ∷ [])
     ∙ seated_at parts (get_or word k d) (all_seated parts (take k word))

@@ -163,7 +163,8 @@ All-front P front back all k d within =
     let longer = length-append front back in
     subst P (get_or_append_left front back d k within) (all k d (omega arith))
 
-less_cannot_come : (parts : Parts) (s t : Timed) (rest later : List Timed) → AreKnown parts (s ∷ rest) → t.op < op_count_of parts → IsNormalWord parts (s ∷ rest) →
+less_cannot_come : (parts : Parts) (s t : Timed) (rest later : List Timed) → AreKnown parts (s ∷ rest) → t.op < op_count_of parts →
+    IsNormalWord parts (s ∷ rest) →
     TakeTurns parts (s ∷ rest) (t ∷ later) → t.op < s.op → ⊥
 less_cannot_come parts s t rest later each known normal turns less =
     let a = t.op in
@@ -173,7 +174,8 @@ less_cannot_come parts s t rest later each known normal turns less =
     let found = first_of_op a (s ∷ rest) t (filter (is_either a a) later) (turns a a alone ∙ begins) in
     out_of_order parts s t rest later each known normal turns less found.front found.first found.back found.is found.number found.others
   where
-    free_of : (parts : Parts) (t : Timed) (front back later : List Timed) → TakeTurns parts (front ++ back) (t ∷ later) → All (λ (r : Timed). r.op ≢ t.op) front →
+    free_of : (parts : Parts) (t : Timed) (front back later : List Timed) → TakeTurns parts (front ++ back) (t ∷ later) →
+        All (λ (r : Timed). r.op ≢ t.op) front →
         All (λ (r : Timed). independent_of parts t.op r.op ≡ true) front
     free_of parts t front back later turns others k d within =
         let c = (get_or front k d).op in
@@ -186,7 +188,8 @@ less_cannot_come parts s t rest later each known normal turns less =
               absurd (found.not_it (ap (λ (r : Timed). r.op) same))
         ]
 
-    free_ops : (parts : Parts) (v : ℕ) (front : List Timed) → v < op_count_of parts → AreKnown parts front → All (λ (r : Timed). independent_of parts v r.op ≡ true) front →
+    free_ops : (parts : Parts) (v : ℕ) (front : List Timed) → v < op_count_of parts → AreKnown parts front →
+        All (λ (r : Timed). independent_of parts v r.op ≡ true) front →
         All (λ (x : ℕ). IsIndependent (independence_of parts) v x) (ops_of front)
     free_ops parts v [] known each free = All-nil (λ (x : ℕ). IsIndependent (independence_of parts) v x)
     free_ops parts v (r ∷ front) known each free =
@@ -196,7 +199,8 @@ less_cannot_come parts s t rest later each known normal turns less =
         (free_ops parts v front known (All-tail (λ (x : Timed). x.op < op_count_of parts) r front each)
         (All-tail (λ (x : Timed). independent_of parts v x.op ≡ true) r front free))
 
-    out_of_order : (parts : Parts) (s t : Timed) (rest later : List Timed) → AreKnown parts (s ∷ rest) → t.op < op_count_of parts → IsNormalWord parts (s ∷ rest) →
+    out_of_order : (parts : Parts) (s t : Timed) (rest later : List Timed) → AreKnown parts (s ∷ rest) → t.op < op_count_of parts →
+        IsNormalWord parts (s ∷ rest) →
         TakeTurns parts (s ∷ rest) (t ∷ later) → t.op < s.op → (front : List Timed) (first : Timed) (back : List Timed) → s ∷ rest ≡ front ++ first ∷ back →
         first.op ≡ t.op → All (λ (r : Timed). r.op ≢ t.op) front → ⊥
     out_of_order parts s t rest later each known normal turns less [] first back is number others =

@@ -72,13 +72,15 @@ seat_within parts v (s ∷ later) =
 -- none of the operations is blocked when its turn comes, where these are at first
 data AreFree (parts : Parts) : ℕ → List Timed → Type 0 where
   none : (blocked : ℕ) → AreFree parts blocked []
-  more : (blocked : ℕ) (t : Timed) (later : List Timed) → (IsBitSet blocked t.op → ⊥) → AreFree parts (next_blocked (independence_of parts) blocked t.op) later →
+  more : (blocked : ℕ) (t : Timed) (later : List Timed) → (IsBitSet blocked t.op → ⊥) → AreFree parts (next_blocked (independence_of parts) blocked t.op) later
+      →
       AreFree parts blocked (t ∷ later)
 
 ops_push : (read : List Timed) (t : Timed) → ops_of (read ++ t ∷ []) ≡ ops_of read ++ t.op ∷ []
 ops_push read t = map-append (λ (s : Timed). s.op) read (t ∷ [])
 
-normal_from_free : (parts : Parts) (read later : List Timed) → IsNormalWord parts read → AreFree parts (blocked_after (independence_of parts) (ops_of read)) later →
+normal_from_free : (parts : Parts) (read later : List Timed) → IsNormalWord parts read →
+    AreFree parts (blocked_after (independence_of parts) (ops_of read)) later →
     IsNormalWord parts (read ++ later)
 normal_from_free parts read [] normal (none blocked) = subst (IsNormalWord parts) (sym (append-nil read)) normal
 normal_from_free parts read (t ∷ later) normal (more blocked s rest free others) =
@@ -89,20 +91,23 @@ normal_from_free parts read (t ∷ later) normal (more blocked s rest free other
     subst (IsNormalWord parts) (append_assoc read (t ∷ []) later)
     (normal_from_free parts (read ++ t ∷ []) later next (subst (λ (b : ℕ). AreFree parts b later) set others))
 
-free_from_normal : (parts : Parts) (read later : List Timed) → IsNormalWord parts (read ++ later) → AreFree parts (blocked_after (independence_of parts) (ops_of read)) later
+free_from_normal : (parts : Parts) (read later : List Timed) → IsNormalWord parts (read ++ later) →
+    AreFree parts (blocked_after (independence_of parts) (ops_of read)) later
 free_from_normal parts read [] normal = none (blocked_after (independence_of parts) (ops_of read))
 free_from_normal parts read (t ∷ later) normal =
     let masks = independence_of parts in
     let longer = subst (IsNormalWord parts) (sym (append_assoc read (t ∷ []) later)) normal in
     let split = map-append (λ (s : Timed). s.op) (read ++ t ∷ []) later in
-    let first : IsNormal masks (ops_of (read ++ t ∷ [])) = parts_are_normal masks [] (ops_of (read ++ t ∷ [])) (ops_of later) (subst (IsNormal masks) split longer) in
+    let first : IsNormal masks (ops_of (read ++ t ∷ [])) = parts_are_normal masks [] (ops_of (read ++ t ∷ [])) (ops_of later)
+    (subst (IsNormal masks) split longer) in
     let free = ((normal_grows masks (ops_of read) t.op).0 (subst (IsNormal masks) (ops_push read t) first)).1 in
     let set = ap (blocked_after masks) (ops_push read t) ∙ blocked_grow masks (ops_of read) t.op in
     more (blocked_after masks (ops_of read)) t later free
     (subst (λ (b : ℕ). AreFree parts b later) set (free_from_normal parts (read ++ t ∷ []) later longer))
 
 -- fewer that are blocked leave all free
-still_free : (parts : Parts) (fewer blocked : ℕ) (word : List Timed) → ((v : ℕ) → IsBitSet fewer v → IsBitSet blocked v) → AreFree parts blocked word → AreFree parts fewer word
+still_free : (parts : Parts) (fewer blocked : ℕ) (word : List Timed) → ((v : ℕ) → IsBitSet fewer v → IsBitSet blocked v) → AreFree parts blocked word →
+    AreFree parts fewer word
 still_free parts fewer blocked word within (none b) = none fewer
 still_free parts fewer blocked word within (more b t later free others) =
     let masks = independence_of parts in
@@ -113,7 +118,8 @@ still_free parts fewer blocked word within (more b t later free others) =
 
 -- ---- the operation in its seat
 
-pub independent_is : (parts : Parts) (v w : ℕ) → v < op_count_of parts → w < op_count_of parts → IsIndependent (independence_of parts) v w ↔ (independent_of parts v w ≡ true)
+pub independent_is : (parts : Parts) (v w : ℕ) → v < op_count_of parts → w < op_count_of parts →
+    IsIndependent (independence_of parts) v w ↔ (independent_of parts v w ≡ true)
 independent_is parts v w first second = (
   λ set. independent_of-symmetric parts v w ∙ (((independent_sets parts).each w second v).0 set).1,
   λ is. ((independent_sets parts).each w second v).1 (first, independent_of-symmetric parts w v ∙ is),
@@ -142,7 +148,8 @@ seated_free parts blocked t word known each (more b s later free others) frees =
           let was = (set_next masks blocked t.op s.op).0 set in
           elim was.1 [ inl earlier ↦ free earlier | inr less ↦ absurd (omega (arith, less, ltb-true t.op s.op both.0)) ]) in
           rw before (more blocked t (s ∷ later) not_blocked (more first s later s_free
-          (still_free parts (next_blocked masks first s.op) (next_blocked masks blocked s.op) later (λ v set. after_both masks blocked t s v (ltb-true t.op s.op both.0) set) others)))
+          (still_free parts (next_blocked masks first s.op) (next_blocked masks blocked s.op) later
+          (λ v set. after_both masks blocked t s v (ltb-true t.op s.op both.0) set) others)))
       | inr after ↦
           let next = next_blocked masks blocked s.op in
           let frees_next : FreesLater parts next t.op later = λ set. (
@@ -206,7 +213,8 @@ seat_push parts v (f ∷ word) s =
     elim (cases_Bool (independent_of parts v s.op)) [
       | inr together ↦
           let tail = all_but_last free word s in
-          let none : comes_before parts v f (word ++ s ∷ []) ≡ false = rw (tail, together, never (list_all free word), never (independent_of parts v f.op), never (ltb v f.op)) refl in
+          let none : comes_before parts v f (word ++ s ∷ []) ≡ false =
+          rw (tail, together, never (list_all free word), never (independent_of parts v f.op), never (ltb v f.op)) refl in
           let later = rw together at rest in
           rw (none, together) (omega arith)
       | inl apart ↦
@@ -224,7 +232,8 @@ seat_push parts v (f ∷ word) s =
                       let both = and_parts (eqb (seat_of parts v word) (length word)) (leb s.op v) behind_it in
                       let last = eqb-true (seat_of parts v word) (length word) both.0 in
                       let here = rw behind_it at later in
-                      let last_too : eqb (1 + seat_of parts v word) (length (f ∷ word)) ≡ true = eq-eqb (1 + seat_of parts v word) (length (f ∷ word)) (omega arith) in
+                      let last_too : eqb (1 + seat_of parts v word) (length (f ∷ word)) ≡ true =
+                      eq-eqb (1 + seat_of parts v word) (length (f ∷ word)) (omega arith) in
                       rw (same, after, apart, last_too, both.1) (omega arith)
                   | inr stays ↦
                       let here = rw stays at later in
@@ -246,7 +255,8 @@ seat_push parts v (f ∷ word) s =
         ]
 
 -- one turn of the loop that looks for the seat
-pub seat_step : (parts : Parts) (v : ℕ) (steps : List Timed) (k : ℕ) (d : Timed) (seat next : ℕ) (b : Bool) → k < length steps → seat ≡ seat_of parts v (take k steps) →
+pub seat_step : (parts : Parts) (v : ℕ) (steps : List Timed) (k : ℕ) (d : Timed) (seat next : ℕ) (b : Bool) → k < length steps →
+    seat ≡ seat_of parts v (take k steps) →
     b ≡ stands_behind parts v (get_or steps k d).op (eqb seat k) → next ≡ (if b then k + 1 else seat) → next ≡ seat_of parts v (take (k + 1) steps)
 seat_step parts v steps k d seat next b within is asked step =
     let read = take k steps in

@@ -7,7 +7,8 @@ use Rattle.normal_order.specs.NormalWords.{ops_of, AreKnown, IsNormalWord, is_no
 
 -- each word of known operations has a normal form
 abbrev pub WordsHaveNormalForms : Parts → Type 0
-WordsHaveNormalForms parts = (word : List Timed) → AreKnown parts word → (form : List Timed) × IsNormalForm parts word form
+WordsHaveNormalForms parts = (word : List Timed) → AreKnown parts word →
+    (form : List Timed) × IsNormalForm parts word form
 
 -- a normal word comes before all words that are equivalent to it
 abbrev pub NormalWordsAreLeast : Parts → Type 0

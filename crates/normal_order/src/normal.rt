@@ -1,4 +1,5 @@
 ghost use Rattle.std.specs.Prelude.{◌≡◌, ◌<◌, ◌≤◌, IfOk, length};
+ghost use Rattle.std.specs.List.Sorted.{IsPermutation};
 ghost use Rattle.plant_model.specs.Parts.{op_count_of};
 ghost use Rattle.slot_words.specs.Swaps.{MeansTheSame};
 ghost use Rattle.normal_order.specs.NormalWords.{AreKnown, IsNormalForm};
@@ -9,11 +10,13 @@ use replay_core::{Timed, Word};
 use slot_words::word_laws;
 use std::alloc::{AllocError, Global};
 
-/// The normal word among those that are equivalent to the word. It means what the word means.
+/// The normal word among those that are equivalent to the word. Of a word that breaks no rule it keeps the rules, what
+/// places hold in the end, and the margin.
 pub fn normalise(alloc: Global, plant: &Plant, word: Word) -> Result<Word, AllocError>
     requires { AreKnown plant.now word }
     ensures normal { IfOk result (IsNormalForm plant.now word) }
     ensures same { IfOk result (MeansTheSame plant.now word) }
+    ensures entries { IfOk result (IsPermutation word) }
 {
     word_laws(plant);
     let mut normal = Vec::new(alloc);
@@ -41,8 +44,8 @@ fn seat(plant: &Plant, steps: &[Timed], op: u8) -> usize
     seat
 }
 
-/// Whether an operation stands behind another that it joins last: it depends on it, or is no less, where nothing greater
-/// was there before that it could have come ahead of.
+/// Whether an operation stands behind another that it joins last: it depends on it, or is no less, where nothing
+/// greater was there before that it could have come ahead of.
 #[tactic(auto, unfolding(plant_model::specs::Relations::independent_of))]
 fn stands_behind(plant: &Plant, op: u8, other: u8, none_greater: bool) -> bool
     requires op { op < op_count_of plant.now }

@@ -4,6 +4,7 @@ use plant_model::Plant;
 use replay_core::{Timed, Word};
 use sample_plants::two_inlets;
 use slot_automaton::Automaton;
+use slot_words::{by_start, slot_replay};
 use std::alloc::{AllocError, Global};
 use std::test::Fail;
 
@@ -64,5 +65,30 @@ fn the_automaton_takes_it(rt: HostRuntime) -> Result<(), Fail> {
     assert!(rt; plant.op_count() == 3);
     assert_eq!(rt; automaton.first_refused(&[0, 1, 2]), None);
     assert_eq!(rt; automaton.first_refused(&[1, 0]), Some(2));
+    Ok(())
+}
+
+/// The second inlet from minute 0 to 2, and the first from 1 to 3, 4 units each.
+fn early_and_late() -> [Timed; 2] {
+    let inlet = |op, start, end| Timed {
+        op,
+        start,
+        end,
+        volume: 4,
+    };
+    [inlet(1, 0, 2), inlet(0, 1, 3)]
+}
+
+#[test]
+fn the_normal_word_runs_by_slots(rt: HostRuntime) -> Result<(), Fail> {
+    let plant = plant(rt.alloc())?;
+    let [early, late] = early_and_late();
+    assert!(rt; plant.op_count() == 3 && early.op < 3 && late.op < 3);
+    let normal = normalise(rt.alloc(), &plant, Word::new(rt.alloc(), &[early, late])?)?;
+    assert_eq!(rt; normal.as_slice(), [late, early].as_slice());
+    assert!(rt; normal.as_slice().len() <= 40);
+    assert!(rt; slot_replay(rt.alloc(), &plant, &normal).is_ok());
+    let plan = by_start(&plant, normal)?;
+    assert_eq!(rt; plan.as_slice(), [early, late].as_slice());
     Ok(())
 }

@@ -111,7 +111,8 @@ joined_is_clique parts clique u known is =
       | inr stays ↦ rw stays is
     ]
   where
-    to_new : (parts : Parts) (clique u : ℕ) → is_within clique (refused_mask_of parts u) ≡ true → (k : ℕ) → IsBitSet clique k → refused_at_once_of parts u k ≡ true
+    to_new : (parts : Parts) (clique u : ℕ) → is_within clique (refused_mask_of parts u) ≡ true → (k : ℕ) → IsBitSet clique k →
+        refused_at_once_of parts u k ≡ true
     to_new parts clique u joins k has = ((refused_mask-has parts u k).0 (member_within clique (refused_mask_of parts u) k joins has)).1
 
     joined_refused : (parts : Parts) (clique u : ℕ) → IsClique parts clique → is_within clique (refused_mask_of parts u) ≡ true → (k l : ℕ) →
@@ -125,7 +126,8 @@ joined_is_clique parts clique u known is =
 clique_from-is : (parts : Parts) (first : ℕ) → IsClique parts first → IsClique parts (clique_from parts first)
 unfolding clique_from
 clique_from-is parts first is =
-    kept_along (IsClique parts) (joined_by parts) 0 (op_count_of parts) (λ clique u from below here. joined_is_clique parts clique u (omega arith) here) first is
+    kept_along (IsClique parts) (joined_by parts) 0 (op_count_of parts) (λ clique u from below here. joined_is_clique parts clique u (omega arith) here) first
+    is
 
 joined_has : (parts : Parts) (clique u k : ℕ) → IsBitSet clique k → IsBitSet (joined_by parts clique u) k
 joined_has parts clique u k has =
@@ -137,7 +139,8 @@ joined_has parts clique u k has =
 clique_from-has : (parts : Parts) (first k : ℕ) → IsBitSet first k → IsBitSet (clique_from parts first) k
 unfolding clique_from
 clique_from-has parts first k has =
-    kept_along (λ (clique : ℕ). IsBitSet clique k) (joined_by parts) 0 (op_count_of parts) (λ clique u from below here. joined_has parts clique u k here) first has
+    kept_along (λ (clique : ℕ). IsBitSet clique k) (joined_by parts) 0 (op_count_of parts) (λ clique u from below here. joined_has parts clique u k here) first
+    has
 
 -- ---- the list of them
 
@@ -152,7 +155,8 @@ with_pair-cliques parts v w cliques first second each =
       | inr stays ↦ rw stays each
     ]
 
-with_pairs-cliques : (parts : Parts) (v : ℕ) (cliques : List ℕ) → v < op_count_of parts → All (IsClique parts) cliques → All (IsClique parts) (with_pairs parts cliques v)
+with_pairs-cliques : (parts : Parts) (v : ℕ) (cliques : List ℕ) → v < op_count_of parts → All (IsClique parts) cliques →
+    All (IsClique parts) (with_pairs parts cliques v)
 with_pairs-cliques parts v cliques known each =
     kept_along (All (IsClique parts)) (with_pair parts v) v (op_count_of parts - v)
     (λ list w from below here. with_pair-cliques parts v w list known (omega arith) here) cliques each

@@ -1,4 +1,5 @@
--- Cliques: sets of operations of which no two may run at one moment. They are chosen so that each such pair lies in one.
+-- Cliques: sets of operations of which no two may run at one moment. They are chosen so that each such pair lies in
+-- one.
 use Rattle.std.specs.Prelude.{◌≡◌, ℕ, ◌-◌, ◌<◌, map, length, slice_index, true, not, ◌&&◌, if◌then◌else◌, List, [], ◌∷◌, ◌++◌, fold, All, IsBitSet}
 use Rattle.std.specs.List.{list_any, range_with_len}
 use Rattle.plant_model.specs.declared.parts.Parts.{Parts}
@@ -58,7 +59,11 @@ pub record HasBoth (v w clique : ℕ) : Type 0 where
   pub second : IsBitSet clique w
 
 -- whatever two operations may not run at one moment lie in one of the cliques
+abbrev pub IsCover : Parts → List ℕ → Type 0
+IsCover parts cliques =
+    (v w : ℕ) → v < op_count_of parts → w < op_count_of parts → refused_at_once_of parts v w ≡ true
+    → (i : ℕ) × (i < length cliques) × HasBoth v w (slice_index cliques i)
+
+-- so it is of the cliques of a plant
 abbrev pub EachPairIsCovered : Parts → Type 0
-EachPairIsCovered parts =
-    (v w : ℕ) → v < op_count_of parts → w < op_count_of parts → refused_at_once_of parts v w ≡ true →
-    (i : ℕ) × (i < length (cliques_of parts)) × HasBoth v w (slice_index (cliques_of parts) i)
+EachPairIsCovered parts = IsCover parts (cliques_of parts)

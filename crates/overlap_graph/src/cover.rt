@@ -1,8 +1,8 @@
 ghost use Rattle.std.specs.Prelude.{◌≡◌, ◌<◌, [], ◌∷◌, ◌++◌, IfOk, OnOk};
-ghost use Rattle.std.specs.List.{list_any};
+ghost use Rattle.std.specs.List.{All, list_any};
 ghost use Rattle.plant_model.specs.Parts.{op_count_of};
 ghost use Rattle.overlap_graph.specs.Sets.{is_within};
-ghost use Rattle.overlap_graph.specs.Cliques.{refused_mask_of, refused_masks_of, clique_from, with_pair, with_pairs, cliques_of};
+ghost use Rattle.overlap_graph.specs.Cliques.{refused_mask_of, refused_masks_of, clique_from, with_pair, with_pairs, cliques_of, IsClique, IsCover};
 
 use crate::sets::{is_within, with_member};
 use item_lists::Items;
@@ -21,7 +21,9 @@ pub(crate) fn push_mask(masks: &mut Masks, mask: u64) -> Result<(), AllocError>
 
 /// The cliques of a plant: no two members of one may run at one moment, and each pair that may not lies in one.
 pub fn cliques(alloc: Global, plant: &Plant) -> Result<Masks, AllocError>
-    ensures { IfOk result (λ cliques. cliques ≡ cliques_of plant.now) }
+    ensures value { IfOk result (λ cliques. cliques ≡ cliques_of plant.now) }
+    ensures cliques { IfOk result (All (IsClique plant.now)) }
+    ensures covered { IfOk result (IsCover plant.now) }
 {
     let refused = refused_masks(alloc, plant)?;
     let mut cliques = Masks::new(alloc);
@@ -108,4 +110,11 @@ fn refused_mask(plant: &Plant, v: u8) -> u64
         }
     }
     mask
+}
+
+// Threads share the cliques.
+fn may_be_shared<T: Sync>(_value: &T) {}
+
+fn masks_may_be_shared(masks: &Masks) {
+    may_be_shared(masks);
 }

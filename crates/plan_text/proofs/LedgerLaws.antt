@@ -2,7 +2,7 @@
 use Rattle.std.proofs.Common.{ℤ, ◌≡◌, ℕ, ◌+◌, ◌*◌, ◌<◌, List, [], ◌∷◌, ◌++◌, length, get_or, take, drop, Some, None, refl, sym, ap, subst, ◌∙◌, append_assoc, arith, length-append, get_or-set_other}
 use Rattle.std.specs.Prelude.{All, codes, decimal}
 use Rattle.std.specs.Fmt.{signed_decimal}
-use Rattle.std.proofs.lemmas.List.{append-nil, drop_more, get_or_default, take-append-drop}
+use Rattle.std.proofs.lemmas.List.{append-nil, drop_more, get_or_default, take-append-drop, get_or-append-add, get_or_append_left}
 use Rattle.std.proofs.lemmas.List.Elements.{All-head, All-tail}
 use Rattle.std.proofs.lemmas.List.Concat.{flat_map-append}
 use Rattle.item_lists.specs.Faults.{first_of, each_from}
@@ -25,7 +25,7 @@ use Rattle.replay_core.proofs.RuleLaws.{is_in_range}
 use Rattle.replay_core.proofs.StateLaws.{state_after_push}
 use Rattle.replay_core.proofs.StepLaws.{step_faults_from-append}
 use Rattle.replay_core.proofs.PlaceLists.{length-per_place}
-use Rattle.plan_text.specs.Ledger.{head_lines, step_lines, step_lines_from, unit_lines, ledger_lines, TellsMargin, TellsStep, IsElsewhere, TellsEnd, holding_words, HasNoLedger, IsLedger}
+use Rattle.plan_text.specs.Ledger.{head_lines, step_lines, step_lines_from, unit_lines, ledger_lines, ledger_line, place_words, TellsMargin, TellsStep, IsElsewhere, TellsEnd, holding_words, HasNoLedger, IsLedger}
 use Rattle.plan_text.specs.inside.Running.{ran, BreaksStep}
 
 -- ---- the lines of operations
@@ -102,10 +102,44 @@ held-elsewhere parts steps (t ∷ later) p each =
     ∙ held-elsewhere parts (steps ++ t ∷ []) later p (All-tail (IsElsewhere parts p) t later each)
     ∙ ap (λ (xs : List Timed). held_of (state_after parts xs) p) (append_assoc steps (t ∷ []) later)
 
-pub tells_end : (parts : Parts) (before : List Timed) (t : Timed) (later : List Timed) → TellsEnd parts before t later
-tells_end parts before t later p each =
+place_kept : (parts : Parts) (before : List Timed) (t : Timed) (later : List Timed) (p : ℕ) → All (IsElsewhere parts p) later →
+    place_words parts (state_after parts (before ++ t ∷ [])) p ≡ place_words parts (state_after parts (before ++ t ∷ later)) p
+place_kept parts before t later p each =
     ap (λ (held : List ℕ). place_name_of parts p ∷ holding_words held)
     (held-elsewhere parts (before ++ t ∷ []) later p each ∙ ap (λ (xs : List Timed). held_of (state_after parts xs) p) (append_assoc before (t ∷ []) later))
+
+-- line k of the four that an operation has
+line_of_step : (parts : Parts) (before : List Timed) (t : Timed) (later : List Timed) (k : ℕ) → k < 4 →
+    ledger_line parts (before ++ t ∷ later) (3 + 4 * length before + k) ≡ get_or (step_lines parts before t) k []
+line_of_step parts before t later k within =
+    let tells = tells_step parts before t later in
+    let lines = step_lines parts before t in
+    let place = tells.place in
+    let at : 3 + 4 * length before + k ≡ length tells.front + k = omega arith in
+    let few = length-step_lines parts before t in
+    ap (λ (whole : List (List (List ℕ))). get_or whole (3 + 4 * length before + k) []) tells.whole
+    ∙ ap (λ (n : ℕ). get_or (tells.front ++ lines ++ tells.back) n []) at
+    ∙ ap (λ (whole : List (List (List ℕ))). get_or whole (length tells.front + k) []) (append_assoc tells.front lines tells.back)
+    ∙ get_or-append-add tells.front (lines ++ tells.back) k []
+    ∙ get_or_append_left lines tells.back [] k (omega arith)
+
+from_line : (parts : Parts) (before : List Timed) (t : Timed) → get_or (step_lines parts before t) 2 []
+    ≡ codes "from" ∷ place_words parts (state_after parts (before ++ t ∷ [])) (op_of parts t.op).from
+unfolding step_lines
+from_line parts before t = refl
+
+to_line : (parts : Parts) (before : List Timed) (t : Timed) → get_or (step_lines parts before t) 3 []
+    ≡ codes "to" ∷ place_words parts (state_after parts (before ++ t ∷ [])) (op_of parts t.op).to
+unfolding step_lines
+to_line parts before t = refl
+
+pub tells_end : (parts : Parts) (before : List Timed) (t : Timed) (later : List Timed) → TellsEnd parts before t later
+tells_end parts before t later = record {
+  source = λ each. line_of_step parts before t later 2 (omega arith) ∙ from_line parts before t
+      ∙ ap (λ (words : List (List ℕ)). codes "from" ∷ words) (place_kept parts before t later (op_of parts t.op).from each);
+  destination = λ each. line_of_step parts before t later 3 (omega arith) ∙ to_line parts before t
+      ∙ ap (λ (words : List (List ℕ)). codes "to" ∷ words) (place_kept parts before t later (op_of parts t.op).to each);
+}
 
 -- ---- units, place by place
 

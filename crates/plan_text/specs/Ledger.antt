@@ -99,9 +99,16 @@ pub record IsElsewhere (parts : Parts) (p : ℕ) (t : Timed) : Type 0 where
   pub source : (op_of parts t.op).from ≢ p
   pub destination : (op_of parts t.op).to ≢ p
 
--- so the last lines `from` and `to` of a place tell what it holds once the whole plan has run
-abbrev pub TellsEnd : Parts → List Timed → Timed → List Timed → Type 0
-TellsEnd parts before t later =
-    (p : ℕ) → All (IsElsewhere parts p) later →
-    place_words parts (state_after parts (before ++ t ∷ [])) p
-    ≡ place_words parts (state_after parts (before ++ t ∷ later)) p
+-- the line of this number, from 0, of the ledger of a plan
+abbrev pub ledger_line : Parts → List Timed → ℕ → List (List ℕ)
+ledger_line parts plan k = slice_index_or (ledger_lines parts plan) k []
+
+-- where no later operation touches its source, the third line of an operation, which begins with `from`, tells what that
+-- place holds once the whole plan has run; likewise its fourth line, `to`, of its destination
+pub record TellsEnd (parts : Parts) (before : List Timed) (t : Timed) (later : List Timed) : Type 0 where
+  pub source : All (IsElsewhere parts (op_of parts t.op).from) later →
+      ledger_line parts (before ++ t ∷ later) (3 + 4 * length before + 2)
+      ≡ codes "from" ∷ place_words parts (state_after parts (before ++ t ∷ later)) (op_of parts t.op).from
+  pub destination : All (IsElsewhere parts (op_of parts t.op).to) later →
+      ledger_line parts (before ++ t ∷ later) (3 + 4 * length before + 3)
+      ≡ codes "to" ∷ place_words parts (state_after parts (before ++ t ∷ later)) (op_of parts t.op).to

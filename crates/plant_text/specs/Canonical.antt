@@ -1,5 +1,5 @@
--- The one text of a plant: JSON without blanks, the keys of each entry in one order, and a line feed at the end. It is of
--- the first format that tells all of the plant.
+-- The one text of a plant: JSON without blanks, the keys of each entry in one order, and a line feed at the end. It is
+-- of the first format that tells all of the plant.
 use Rattle.std.specs.Prelude.{ℕ, Bool, true, false, not, ℤ, pos, List, [], ◌∷◌, ◌++◌, map, decimal, codes, if◌then◌else◌}
 use Rattle.std.specs.Fmt.{signed_decimal}
 use Rattle.std.specs.List.{flat_map, list_any}

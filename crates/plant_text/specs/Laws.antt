@@ -20,6 +20,6 @@ TextsTellPlants =
     (parts others : Parts) → IsSound parts → IsSound others → seen_parts parts ≡ parts → seen_parts others ≡ others
     → plant_text_of parts ≡ plant_text_of others → parts ≡ others
 
--- so is the plant of any text, whose own text may be another
+-- the one text of whatever plant a text is read as is read back too
 abbrev pub AcceptedPlantsAreReadBack : Type 0
 AcceptedPlantsAreReadBack = (text : List ℕ) (parts : Parts) → plant_of text ≡ Ok parts → IsReadBack parts

@@ -1,6 +1,5 @@
 -- What operations have charged and unloaded so far: counts, minutes and volumes of units and charging tanks, and until
--- when
--- each vessel was unloaded.
+-- when each vessel was unloaded.
 use Rattle.std.specs.Prelude.{ℕ, ◌-◌, max, Bool, ◌&&◌, ◌==◌, if◌then◌else◌, List, count_by, fold, sum_by}
 use Rattle.plant_model.specs.declared.parts.Parts.{Parts}
 use Rattle.plant_model.specs.Parts.{op_of}

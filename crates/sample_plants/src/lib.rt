@@ -106,7 +106,8 @@ impl OneCharge {
 }
 
 /// The parts of a plant of 4 minutes and one crude that earns 1: `T1` and `T2` fill tank `C1`, which holds 2, from `S1`
-/// and `S2`, which hold 5 each, and `G` charges the unit from it; each moves 1 to 10 volume units, ten in a minute at most.
+/// and `S2`, which hold 5 each, and `G` charges the unit from it; each moves 1 to 10 volume units, ten in a minute at
+/// most.
 pub fn two_inlets(alloc: Global) -> Result<Parts, AllocError> {
     let sample = OneCharge {
         margin: 1,
@@ -154,9 +155,8 @@ pub struct Berthed {
 }
 
 /// The parts of a plant in which each vessel brings 4 volume units of crude `A`: `u1` may move 1 to 4 of the first
-/// one's
-/// from its arrival on to tank `S1`, at most two in a minute, `u2` those of the second one to `S2`, and so on to the
-/// ninth.
+/// one's from its arrival on to tank `S1`, at most two in a minute, `u2` those of the second one to `S2`, and so on to
+/// the ninth.
 pub fn unloading(alloc: Global, horizon: i64, berthed: &[Berthed]) -> Result<Parts, AllocError> {
     let mut parts = Parts {
         horizon,

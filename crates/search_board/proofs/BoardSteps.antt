@@ -250,7 +250,8 @@ module _ (budget counter best : ℕ) (views : List Known) (h : Holds budget coun
           full = h.full;
           once = λ x. let t = total_set (λ u. times x u.tickets) views id v w at in let o = h.once x in
               let z = total_snoc (λ u. times x u.tickets) vs r in omega arith;
-          count = (let t = total_set (λ u. length u.tickets) views id v w at in let o = h.count in let z = total_snoc (λ u. length u.tickets) vs r in omega arith);
+          count = (let t = total_set (λ u. length u.tickets) views id v w at in let o = h.count in let z =
+              total_snoc (λ u. length u.tickets) vs r in omega arith);
           bounded = (let t = total_set idle_one views id v w at in let o = h.bounded in let z = total_snoc idle_one vs r in omega arith);
           seats = (let t = total_set (λ u. u.may) views id v w at in let o = h.seats in let z = total_snoc (λ u. u.may) vs r in omega arith);
           standing = (let t = total_set (λ u. u.stands) views id v w at in let o = h.standing in let z = total_snoc (λ u. u.stands) vs r in omega arith);

@@ -17,8 +17,8 @@ abbrev pub most_seats : ℕ
 most_seats = 32
 
 -- a seat: its board; the tickets that it drew; the greatest margin that it offered; the greatest best that it saw; how
--- often it looked; the number with which it was told that none is left, if it was; for how many seats it stands; and how
--- many it may still make
+-- often it looked; the number with which it was told that none is left, if it was; for how many seats it stands; and
+-- how many it may still make
 pub record SeatView : Type 0 where
   pub board : BoardView
   pub tickets : List ℕ
@@ -74,8 +74,8 @@ joined_seat into done = record {
 }
 
 -- what a board tells when it is closed with its last seat: the seat has all tickets, which are the numbers below their
--- count, each once, and no more than the budget, of which none is left where it was told so. The best is its offer, and it
--- never saw more
+-- count, each once, and no more than the budget, of which none is left where it was told so. The best is its offer, and
+-- it never saw more
 pub record IsClosing (seat : SeatView) (tickets : ℕ) (best : Option ℤ) : Type 0 where
   pub each : HasEachBelow tickets seat.tickets
   pub within : tickets ≤ seat.board.budget

@@ -47,7 +47,8 @@ impl Model for Board {
 
     ghost view = { λ b. record { table = b.table.shared.table_id; budget = b.budget } };
 
-    ghost invariant = { λ b. (b.table.shared.table_id.words ≡ 4) × (b.table.shared.table_id.slots ≡ 0) × (b.table.shared.key ≡ b.budget) };
+    ghost invariant = { λ b. (b.table.shared.table_id.words ≡ 4) × (b.table.shared.table_id.slots ≡ 0) ×
+        (b.table.shared.key ≡ b.budget) };
 }
 
 impl Board {
@@ -84,11 +85,14 @@ impl Board {
     /// The next ticket, unless none is left; that is said again without a step to whoever was told once.
     pub fn ticket(&self, seat: &mut Seat) -> Result<u32, Spent>
         requires { seat.old.board ≡ self.now }
-        ensures again { (number : ℕ) → seat.old.told ≡ Some number → (result ≡ Err (record { number = number })) × (seat.new ≡ seat.old) }
+        ensures again { (number : ℕ) → seat.old.told ≡ Some number →
+            (result ≡ Err (record { number = number })) × (seat.new ≡ seat.old) }
         ensures first { seat.old.told ≡ None → MatchResult result
-            (λ ticket. (ticket < self.now.budget) × (seat.new ≡ record seat.old { tickets = seat.old.tickets ++ ticket ∷ [] }))
+            (λ ticket. (ticket < self.now.budget) ×
+            (seat.new ≡ record seat.old { tickets = seat.old.tickets ++ ticket ∷ [] }))
             (λ spent. (self.now.budget ≤ spent.number) × (seat.new ≡ record seat.old { told = Some spent.number })) }
-        ensures fresh { MatchResult result (λ ticket. (length seat.old.tickets < self.now.budget) × (times ticket seat.old.tickets ≡ 0)) (λ _. ⊤) }
+        ensures fresh { MatchResult result
+            (λ ticket. (length seat.old.tickets < self.now.budget) × (times ticket seat.old.tickets ≡ 0)) (λ _. ⊤) }
     {
         if let Some(number) = seat.spent {
             return Err(Spent { number });

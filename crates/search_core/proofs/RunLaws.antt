@@ -253,7 +253,7 @@ module _ (core : Core) (good : IsGood core) (idle : IsIdle core) where
         reaches (suc n.id) n.id (omega arith) (omega arith);
   }
 
-spent-all : (core : Core) → IsGood core → HasSpent core → tickets_given core ≡ core.budget
+pub spent-all : (core : Core) → IsGood core → HasSpent core → tickets_given core ≡ core.budget
 spent-all core good spent = let a = (good.workers spent.0 spent.1).spent spent.2 in omega arith
 
 -- the best is the greatest of the margins before and of those that the events offer

@@ -59,7 +59,7 @@ robbed worker = record worker { deck = drop 1 worker.deck }
 abbrev pub holding : Worker → ℕ → Worker
 holding worker id = record worker { hand = Some id }
 
--- it gets the ticket of this number, or is spent where the number is past the budget
+-- it gets the ticket of this number, or is spent where the number is not below the budget
 abbrev pub drawing : ℕ → ℕ → Worker → Worker
 drawing budget number worker =
     if nat_lt number budget then record worker { ticket = Some number } else record worker { spent = true }

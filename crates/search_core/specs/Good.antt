@@ -28,8 +28,8 @@ pub record IsWithinLimits (core : Core) : Type 0 where
   pub most_workers : length core.workers ≤ MOST_WORKERS + 1
   pub budget : core.budget ≤ MOST_NODES
 
--- the tickets that were given are held by a worker or stand in a note, each once. No number is drawn after the budget but
--- once by each worker that is spent
+-- the tickets that were given are held by a worker or stand in a note, each once. No number is drawn after the budget
+-- but once by each worker that is spent
 pub record HasTickets (core : Core) : Type 0 where
   pub each : HasEachBelow (tickets_given core) (held_tickets core.workers ++ noted_tickets core.notes)
   pub many : length (held_tickets core.workers ++ noted_tickets core.notes) ≡ tickets_given core
@@ -50,8 +50,8 @@ pub record HasChains (core : Core) (w : ℕ) (worker : Worker) : Type 0 where
   pub handed : List NodeTask
   pub chains : AreNodeChains taken (notes_by w core.notes) handed (task_in worker.hand)
 
--- what holds of each worker: with a ticket it has a node in hand, which comes before the ticket's parts; it is spent only
--- where a number past the budget was drawn; and it has offered and seen no more than the best
+-- what holds of each worker: with a ticket it has a node in hand, which comes before the ticket's parts; it is spent
+-- only where a number not below the budget was drawn; and it has offered and seen no more than the best
 pub record IsGoodWorker (core : Core) (w : ℕ) (worker : Worker) : Type 0 where
   pub full : (ticket : ℕ) → worker.ticket ≡ Some ticket → (id : ℕ) × (worker.hand ≡ Some id) × (id ≤ 2 * ticket)
   pub spent : worker.spent ≡ true → core.budget < core.counter

@@ -33,13 +33,21 @@ IsIdle core = (w : ℕ) → w < length core.workers → nodes_of (worker_at core
 abbrev pub HasSpent : Core → Type 0
 HasSpent core = (w : ℕ) × (w < length core.workers) × ((worker_at core w).spent ≡ true)
 
--- what holds after the events: the core is good, its best is the greatest margin that was offered; all of the budget was
--- given where a worker is spent; and where no node waits, the notes are those of a whole search tree
+-- where a worker is spent, all of the budget was given
+abbrev pub GivesTheBudget : Core → Type 0
+GivesTheBudget core = HasSpent core → tickets_given core ≡ core.budget
+
+-- where no node waits, the notes are those of a whole search tree
+abbrev pub SettlesWhenIdle : Core → Type 0
+SettlesWhenIdle core = IsIdle core → AreSettledNodes (node_notes core.notes) (tickets_given core)
+
+-- what holds after the events: the core is good, and its best is the greatest margin that was offered; all of the
+-- budget was given where a worker is spent; and where no node waits, the notes are those of a whole search tree
 pub record HoldsAfter (events : List Event) (core : Core) : Type 0 where
   pub good : IsGood core
   pub best : IsGreatest core.best (offers_of events)
-  pub spent : HasSpent core → tickets_given core ≡ core.budget
-  pub settled : IsIdle core → AreSettledNodes (node_notes core.notes) (tickets_given core)
+  pub spent : GivesTheBudget core
+  pub settled : SettlesWhenIdle core
 
 -- so it is after all events that can come, one after the other, from the first core on
 abbrev pub RunsAreGood : Type 0

@@ -27,6 +27,7 @@ impl CoreState {
     ghost use Rattle.search_core.specs.Cores.{first_core};
     ghost use Rattle.search_core.specs.Events.{is_enabled, after};
     ghost use Rattle.search_core.specs.Good.{IsGood};
+    ghost use Rattle.search_core.specs.Laws.{GivesTheBudget, SettlesWhenIdle};
 
     /// So many workers and this budget. Worker 0 has node 0 in hand. One worker more than a search has may end it.
     pub fn new(alloc: Global, workers: u32, budget: u32) -> Result<CoreState, AllocError>
@@ -35,6 +36,8 @@ impl CoreState {
         requires budget { budget ≤ MOST_NODES }
         ensures first { IfOk result (λ core. core ≡ first_core workers budget) }
         ensures good { IfOk result IsGood }
+        ensures given { IfOk result GivesTheBudget }
+        ensures settled { IfOk result SettlesWhenIdle }
     {
         Ok(CoreState {
             machine: Machine::new(alloc, workers, budget)?,
@@ -47,6 +50,8 @@ impl CoreState {
         ensures ok { OnOk result (IsTrue (is_enabled self.old event) × (self.new ≡ after self.old event)) }
         ensures err { OnErr result (self.new ≡ self.old) }
         ensures good { IsGood self.new }
+        ensures given { GivesTheBudget self.new }
+        ensures settled { SettlesWhenIdle self.new }
     {
         if !self.machine.is_enabled(event) {
             return Err(CoreFault::NotEnabled);

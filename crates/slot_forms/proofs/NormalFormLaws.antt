@@ -90,7 +90,8 @@ all_late : (minute : ℕ) (word : List Timed) → All (λ (t : Timed). minute �
 all_late minute [] late = refl
 all_late minute (t ∷ word) late =
     let here = le-leb minute t.start (All-head (λ (s : Timed). minute ≤ s.start) t word late) in
-    and_from (leb minute t.start) (list_all (λ (s : Timed). nat_le minute s.start) word) here (all_late minute word (All-tail (λ (s : Timed). minute ≤ s.start) t word late))
+    and_from (leb minute t.start) (list_all (λ (s : Timed). nat_le minute s.start) word) here
+    (all_late minute word (All-tail (λ (s : Timed). minute ≤ s.start) t word late))
 
 All-behind : (P : Timed → Type 0) (front back : List Timed) → All P (front ++ back) → All P back
 All-behind P [] back all = all
@@ -114,7 +115,8 @@ record HasNormalRest (parts : Parts) (plan held rest form : List Timed) : Type 0
 known_of : (parts : Parts) (word : List Timed) → All (IsInRange parts) word → AreKnown parts word
 known_of parts word ranges k d within = (ranges k d within).known
 
-normal_rest : (parts : Parts) (plan held rest : List Timed) → StepsAreInRange parts → PlansAreSlotLegal parts → SwapsKeepTheMeaning parts → SwapsKeepTheEntries parts →
+normal_rest : (parts : Parts) (plan held rest : List Timed) → StepsAreInRange parts → PlansAreSlotLegal parts → SwapsKeepTheMeaning parts →
+    SwapsKeepTheEntries parts →
     WordsHaveNormalForms parts → IsLegal parts plan → plan ≡ held ++ rest → (form : List Timed) × HasNormalRest parts plan held rest form
 normal_rest parts plan held rest ranges by_slot meaning entries forms legal is =
     let each = subst (All (IsInRange parts)) is (ranges ByStart plan legal) in
@@ -183,7 +185,8 @@ plain_normal_form parts slots may_idle may_run ranges sound by_slot meaning entr
       },
     )
 
-begun_normal_form : (parts : Parts) (slots : ℕ) (begun : Begun) → RootSlotsMayIdle → RootSlotsMayRun → StepsAreInRange parts → SoundPlant parts → PlansAreSlotLegal parts →
+begun_normal_form : (parts : Parts) (slots : ℕ) (begun : Begun) → RootSlotsMayIdle → RootSlotsMayRun → StepsAreInRange parts → SoundPlant parts →
+    PlansAreSlotLegal parts →
     SwapsKeepTheMeaning parts → SwapsKeepTheEntries parts → WordsHaveNormalForms parts →
     PlansHaveNormalForms (record { parts = parts; slots = slots; begun = Some begun })
 begun_normal_form parts slots begun may_idle may_run ranges sound by_slot meaning entries forms plan is =
@@ -213,7 +216,8 @@ begun_normal_form parts slots begun may_idle may_run ranges sound by_slot meanin
       },
     )
 
-pub plans_have_normal_forms : (parts : Parts) (slots : ℕ) (begun : Option Begun) → RootSlotsMayIdle → RootSlotsMayRun → StepsAreInRange parts → SoundPlant parts →
+pub plans_have_normal_forms : (parts : Parts) (slots : ℕ) (begun : Option Begun) → RootSlotsMayIdle → RootSlotsMayRun → StepsAreInRange parts →
+    SoundPlant parts →
     PlansAreSlotLegal parts → SwapsKeepTheMeaning parts → SwapsKeepTheEntries parts → WordsHaveNormalForms parts →
     PlansHaveNormalForms (record { parts = parts; slots = slots; begun = begun })
 plans_have_normal_forms parts slots None may_idle may_run ranges sound by_slot meaning entries forms =

@@ -19,8 +19,7 @@ pub record Begun : Type 0 where
   pub from : ℕ
 
 -- a plant, the number of slots, and what has begun; in the plain case nothing has. Planning anew at minute 0 with
--- nothing fixed
--- is another case
+-- nothing fixed is another case
 pub record Case : Type 0 where
   pub parts : Parts
   pub slots : ℕ

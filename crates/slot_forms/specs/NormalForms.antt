@@ -22,8 +22,8 @@ abbrev pub behind_begun : Option Begun → List Timed → List Timed
 behind_begun None word = word
 behind_begun (Some begun) word = drop (length begun.fixed) word
 
--- a point of the root box is the normal form of the plan: its word breaks no rule by slots and has the same margin, and
--- what stands behind the operations that have begun starts late enough and is normal
+-- a point of the root box is a normal form that stands for the plan: its word breaks no rule by slots and has the same
+-- margin, and what stands behind the operations that have begun starts late enough and is normal
 pub record IsNormalFormOf (case : Case) (plan : List Timed) (point : List Entry) : Type 0 where
   pub there : IsPoint (root_box case) point
   pub form : IsTrue (is_form point)

@@ -25,20 +25,24 @@ pub record AreAlike (parts : Parts) (before other : List Timed) : Type 0 where
 
 pub alike_push : (parts : Parts) (before other : List Timed) (r : Timed) → AreAlike parts before other → AreAlike parts (before ++ r ∷ []) (other ++ r ∷ [])
 alike_push parts before other r alike = record {
-  tests = λ test. list_all-append test before (r ∷ []) ∙ ap (λ (b : Bool). b && (test r && true)) (alike.tests test) ∙ sym (list_all-append test other (r ∷ []));
+  tests = λ test. list_all-append test before (r ∷ []) ∙ ap (λ (b : Bool). b && (test r && true)) (alike.tests test)
+      ∙ sym (list_all-append test other (r ∷ []));
   count = length-append before (r ∷ []) ∙ ap (λ (n : ℕ). n + 1) alike.count ∙ sym (length-append other (r ∷ []));
   state = state_after_push parts before r ∙ ap (λ state. after_step parts state r) alike.state ∙ sym (state_after_push parts other r);
 }
 
-order-alike : (parts : Parts) (before other : List Timed) (r : Timed) → AreAlike parts before other → starts_after_ordered parts before r ≡ starts_after_ordered parts other r
+order-alike : (parts : Parts) (before other : List Timed) (r : Timed) → AreAlike parts before other →
+    starts_after_ordered parts before r ≡ starts_after_ordered parts other r
 unfolding starts_after_ordered
 order-alike parts before other r alike = alike.tests (λ (s : Timed). not (ordered_of parts s.op r.op) || nat_le s.start r.start)
 
-waits-alike : (parts : Parts) (before other : List Timed) (r : Timed) → AreAlike parts before other → waits_for_others parts before r ≡ waits_for_others parts other r
+waits-alike : (parts : Parts) (before other : List Timed) (r : Timed) → AreAlike parts before other →
+    waits_for_others parts before r ≡ waits_for_others parts other r
 unfolding waits_for_others
 waits-alike parts before other r alike = alike.tests (λ (s : Timed). not (refused_at_once_of parts s.op r.op) || nat_le s.end r.start)
 
-vessels-alike : (parts : Parts) (before other : List Timed) (r : Timed) → AreAlike parts before other → keeps_vessel_order parts before r ≡ keeps_vessel_order parts other r
+vessels-alike : (parts : Parts) (before other : List Timed) (r : Timed) → AreAlike parts before other →
+    keeps_vessel_order parts before r ≡ keeps_vessel_order parts other r
 unfolding keeps_vessel_order
 vessels-alike parts before other r alike = alike.tests (λ (s : Timed). not (unloads_later_vessel parts s.op r.op))
 
@@ -65,7 +69,8 @@ earning-alike : (parts : Parts) (before other : List Timed) (r : Timed) → AreA
 unfolding earned_at
 earning-alike parts before other r alike = rw alike.state refl
 
-pub earned-alike : (parts : Parts) (before other later : List Timed) → AreAlike parts before other → earned_from parts before later ≡ earned_from parts other later
+pub earned-alike : (parts : Parts) (before other later : List Timed) → AreAlike parts before other →
+    earned_from parts before later ≡ earned_from parts other later
 earned-alike parts before other [] alike = refl
 earned-alike parts before other (r ∷ later) alike =
     ap (λ (n : ℤ). n +ℤ earned_from parts (before ++ r ∷ []) later) (earning-alike parts before other r alike)
@@ -75,7 +80,8 @@ state_after-append : (parts : Parts) (front back : List Timed) → state_after p
 unfolding state_after
 state_after-append parts front back = fold-append (after_step parts) (initial_state parts) front back
 
-pub state-alike : (parts : Parts) (before other later : List Timed) → AreAlike parts before other → state_after parts (before ++ later) ≡ state_after parts (other ++ later)
+pub state-alike : (parts : Parts) (before other later : List Timed) → AreAlike parts before other →
+    state_after parts (before ++ later) ≡ state_after parts (other ++ later)
 state-alike parts before other later alike =
     state_after-append parts before later ∙ ap (λ state. fold (after_step parts) state later) alike.state ∙ sym (state_after-append parts other later)
 
@@ -90,16 +96,19 @@ both_tests false false = refl
 two_pushed : (before : List Timed) (s t : Timed) → before ++ s ∷ t ∷ [] ≡ before ++ s ∷ [] ++ t ∷ []
 two_pushed before s t = sym (append_assoc before (s ∷ []) (t ∷ []))
 
-pub state_after_two : (parts : Parts) (before : List Timed) (s t : Timed) → state_after parts (before ++ s ∷ t ∷ []) ≡ after_step parts (after_step parts (state_after parts before) s) t
+pub state_after_two : (parts : Parts) (before : List Timed) (s t : Timed) →
+    state_after parts (before ++ s ∷ t ∷ []) ≡ after_step parts (after_step parts (state_after parts before) s) t
 state_after_two parts before s t =
-    ap (state_after parts) (two_pushed before s t) ∙ state_after_push parts (before ++ s ∷ []) t ∙ ap (λ state. after_step parts state t) (state_after_push parts before s)
+    ap (state_after parts) (two_pushed before s t) ∙ state_after_push parts (before ++ s ∷ []) t
+    ∙ ap (λ state. after_step parts state t) (state_after_push parts before s)
 
 pub swapped_alike : (parts : Parts) (before : List Timed) (s t : Timed) →
     after_step parts (after_step parts (state_after parts before) s) t ≡ after_step parts (after_step parts (state_after parts before) t) s →
     AreAlike parts (before ++ s ∷ t ∷ []) (before ++ t ∷ s ∷ [])
 swapped_alike parts before s t moved = record {
   tests = λ test.
-      list_all-append test before (s ∷ t ∷ []) ∙ ap (λ (b : Bool). list_all test before && b) (both_tests (test s) (test t)) ∙ sym (list_all-append test before (t ∷ s ∷ []));
+      list_all-append test before (s ∷ t ∷ []) ∙ ap (λ (b : Bool). list_all test before && b) (both_tests (test s) (test t))
+      ∙ sym (list_all-append test before (t ∷ s ∷ []));
   count = length-append before (s ∷ t ∷ []) ∙ sym (length-append before (t ∷ s ∷ []));
   state = state_after_two parts before s t ∙ moved ∙ sym (state_after_two parts before t s);
 }

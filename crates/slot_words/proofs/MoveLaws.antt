@@ -51,7 +51,8 @@ pub keep_apart : (parts : Parts) (s t : Timed) → AreApart parts s.op t.op → 
 keep_apart parts s t apart = record { sources = apart.sources; first_feeds_not = apart.first_feeds_not; second_feeds_not = apart.second_feeds_not }
 
 pub other_way : (parts : Parts) (s t : Timed) → KeepApart parts s t → KeepApart parts t s
-other_way parts s t apart = record { sources = λ same. apart.sources (sym same); first_feeds_not = apart.second_feeds_not; second_feeds_not = apart.first_feeds_not }
+other_way parts s t apart =
+    record { sources = λ same. apart.sources (sym same); first_feeds_not = apart.second_feeds_not; second_feeds_not = apart.first_feeds_not }
 
 -- the source of the second is as it was
 pub source-kept : (parts : Parts) (state : List (List ℕ)) (s t : Timed) → KeepApart parts s t →
@@ -60,7 +61,8 @@ source-kept parts state s t apart =
     after-other parts state s (op_of parts t.op).from (λ same. apart.sources (sym same)) (λ same. apart.first_feeds_not (sym same))
 
 -- it draws what it would have drawn
-pub draw-kept : (parts : Parts) (state : List (List ℕ)) (s t : Timed) → KeepApart parts s t → drawn_of parts (after_step parts state s) t ≡ drawn_of parts state t
+pub draw-kept : (parts : Parts) (state : List (List ℕ)) (s t : Timed) → KeepApart parts s t →
+    drawn_of parts (after_step parts state s) t ≡ drawn_of parts state t
 unfolding drawn_of
 draw-kept parts state s t apart = ap (λ held. draw_of held t.volume) (source-kept parts state s t apart)
 
@@ -101,7 +103,8 @@ held-after parts state s t has_s has_t apart p =
           subst at (sym is) (first ∙ sym (second ∙ held ∙ drawn))
       | inr not_a ↦ elim (cases_eq p b.from) [
         | inl is ↦
-            let second = after-other parts after_t s b.from (λ same. apart.sources (sym same)) (λ same. apart.first_feeds_not (sym same)) ∙ after-source parts state t has_t in
+            let second = after-other parts after_t s b.from (λ same. apart.sources (sym same)) (λ same. apart.first_feeds_not (sym same))
+            ∙ after-source parts state t has_t in
             let first = after-source parts after_s t (has_places-after parts state s t has_t) in
             let held = ap (λ held. rest_of held (drawn_of parts after_s t)) (source-kept parts state s t apart) in
             let drawn = ap (λ drawn. rest_of (held_of state b.from) drawn) (draw-kept parts state s t apart) in

@@ -94,7 +94,8 @@ either_holds : (a b : Bool) → a ≡ false → (not a || b) ≡ true
 either_holds true b is = cc
 either_holds false b is = refl
 
-order-first : (parts : Parts) (before : List Timed) (s t : Timed) → starts_after_ordered parts (before ++ s ∷ []) t ≡ true → starts_after_ordered parts before t ≡ true
+order-first : (parts : Parts) (before : List Timed) (s t : Timed) → starts_after_ordered parts (before ++ s ∷ []) t ≡ true →
+    starts_after_ordered parts before t ≡ true
 unfolding starts_after_ordered
 order-first parts before s t after = first_ones (λ (r : Timed). not (ordered_of parts r.op t.op) || nat_le r.start t.start) before s after
 
@@ -116,7 +117,8 @@ waits-second parts before s t apart first =
     one_more (λ (r : Timed). not (refused_at_once_of parts r.op s.op) || nat_le r.end s.start) before t first
     (either_holds (refused_at_once_of parts t.op s.op) (nat_le t.end s.start) apart.refused)
 
-vessels-first : (parts : Parts) (before : List Timed) (s t : Timed) → keeps_vessel_order parts (before ++ s ∷ []) t ≡ true → keeps_vessel_order parts before t ≡ true
+vessels-first : (parts : Parts) (before : List Timed) (s t : Timed) → keeps_vessel_order parts (before ++ s ∷ []) t ≡ true →
+    keeps_vessel_order parts before t ≡ true
 unfolding keeps_vessel_order
 vessels-first parts before s t after = first_ones (λ (r : Timed). not (unloads_later_vessel parts r.op t.op)) before s after
 
@@ -128,12 +130,14 @@ vessels-second parts before s t apart first =
 
 -- ---- tests of what places hold
 
-minimum-same : (parts : Parts) (state : List (List ℕ)) (s t : Timed) → KeepApart parts s t → leaves_minimum parts (after_step parts state s) t ≡ leaves_minimum parts state t
+minimum-same : (parts : Parts) (state : List (List ℕ)) (s t : Timed) → KeepApart parts s t →
+    leaves_minimum parts (after_step parts state s) t ≡ leaves_minimum parts state t
 unfolding leaves_minimum
 minimum-same parts state s t apart =
     ap (λ held. nat_le ((place_of parts (op_of parts t.op).from).min + t.volume) (sum held)) (source-kept parts state s t apart)
 
-limits-same : (parts : Parts) (state : List (List ℕ)) (s t : Timed) → KeepApart parts s t → meets_limits parts (after_step parts state s) t ≡ meets_limits parts state t
+limits-same : (parts : Parts) (state : List (List ℕ)) (s t : Timed) → KeepApart parts s t →
+    meets_limits parts (after_step parts state s) t ≡ meets_limits parts state t
 unfolding meets_limits
 limits-same parts state s t apart =
     ap (λ drawn. not (is_charge (op_of parts t.op).kind) || list_all (meets_limit parts t.op t.volume drawn) (range_with_len 0 (property_count_of parts)))
@@ -170,7 +174,8 @@ filled-total : (parts : Parts) (n : ℕ) (state : List (List ℕ)) (s : Timed) �
 filled-total parts n state s holds runs =
     let a = op_of parts s.op in
     let drawn = drawn_of parts state s in
-    let crudes : length drawn ≡ length (held_of state a.to) = drawn-crudes parts state s ∙ holds.crudes a.from runs.sound.from_place ∙ sym (holds.crudes a.to runs.sound.to_place) in
+    let crudes : length drawn ≡ length (held_of state a.to) = drawn-crudes parts state s ∙ holds.crudes a.from runs.sound.from_place
+    ∙ sym (holds.crudes a.to runs.sound.to_place) in
     let mixed = sum-mix_of (held_of state a.to) drawn crudes in
     let same = ap sum (after-target parts state s (has_places parts n state s holds runs)) in
     let volume = drawn-volume parts state s runs in
@@ -198,7 +203,8 @@ maximum-first parts n state s t holds runs apart kept =
     ]
 
 -- and the one that ran first may run second
-maximum-second : (parts : Parts) (n : ℕ) (state : List (List ℕ)) (s t : Timed) → HoldsWithin parts n state → RunsSoundly parts state s → RunsSoundly parts state t →
+maximum-second : (parts : Parts) (n : ℕ) (state : List (List ℕ)) (s t : Timed) → HoldsWithin parts n state → RunsSoundly parts state s →
+    RunsSoundly parts state t →
     KeepApart parts s t → keeps_maximum parts state s ≡ true → keeps_maximum parts (after_step parts state s) t ≡ true →
     keeps_maximum parts (after_step parts state t) s ≡ true
 maximum-second parts n state s t holds runs_s runs_t apart kept_s kept_t =
@@ -246,7 +252,8 @@ second-places parts n before s t holds runs_s runs_t apart unrelated kept_s kept
       vessels = vessels-second parts before s t unrelated kept_s.vessels;
       minimum = ap (λ after. leaves_minimum parts after s) after_t ∙ minimum-same parts state t s back ∙ kept_s.minimum;
       maximum = ap (λ after. keeps_maximum parts after s) after_t
-          ∙ maximum-second parts n state s t holds runs_s runs_t apart kept_s.maximum (sym (ap (λ after. keeps_maximum parts after t) after_s) ∙ kept_t.maximum);
+          ∙ maximum-second parts n state s t holds runs_s runs_t apart kept_s.maximum (sym (ap (λ after. keeps_maximum parts after t) after_s)
+          ∙ kept_t.maximum);
       limits = ap (λ after. meets_limits parts after s) after_t ∙ limits-same parts state t s back ∙ kept_s.limits;
     }
 

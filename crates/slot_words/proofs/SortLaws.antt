@@ -57,9 +57,11 @@ one-passes : (parts : Parts) (before : List Timed) (s t : Timed) → HasRun s be
 unfolding HasRun MayPass starts_after_ordered
 one-passes parts before s t has after ordered =
     leb-true s.start t.start
-    (passes-test (ordered_of parts s.op t.op) (leb s.start t.start) (has (λ (r : Timed). not (ordered_of parts r.op t.op) || nat_le r.start t.start) after) ordered)
+    (passes-test (ordered_of parts s.op t.op) (leb s.start t.start) (has (λ (r : Timed). not (ordered_of parts r.op t.op) || nat_le r.start t.start) after)
+    ordered)
 
-all-pass : (parts : Parts) (before later : List Timed) (s : Timed) → HasRun s before → step_faults_from parts BySlot before later ≡ [] → All (MayPass parts s) later
+all-pass : (parts : Parts) (before later : List Timed) (s : Timed) → HasRun s before → step_faults_from parts BySlot before later ≡ [] →
+    All (MayPass parts s) later
 all-pass parts before [] s has faultless = All-nil (MayPass parts s)
 all-pass parts before (t ∷ later) s has faultless =
     let parted = nil_of_append (op_faults parts BySlot before t (length before + 1)) (step_faults_from parts BySlot (before ++ t ∷ []) later) faultless in
@@ -161,14 +163,16 @@ sorted-stable minute (t ∷ later) =
 
 -- ---- and there is one way to sort it
 
-rises_from : (minute : ℕ) (word : List Timed) → ((t : Timed) (later : List Timed) → word ≡ t ∷ later → minute ≤ t.start) → IsNonDecreasingBy (λ (t : Timed). t.start) word →
+rises_from : (minute : ℕ) (word : List Timed) → ((t : Timed) (later : List Timed) → word ≡ t ∷ later → minute ≤ t.start) →
+    IsNonDecreasingBy (λ (t : Timed). t.start) word →
     RisesFrom minute word
 rises_from minute [] early rising = end minute
 rises_from minute (t ∷ later) early rising =
     rises minute t later (early t later refl)
     (rises_from t.start later (λ s rest is. first-two later t s rest is rising) (λ i j d order within. rising (suc i) (suc j) d (omega arith) (omega arith)))
   where
-    first-two : (later : List Timed) (t s : Timed) (rest : List Timed) → later ≡ s ∷ rest → IsNonDecreasingBy (λ (r : Timed). r.start) (t ∷ later) → t.start ≤ s.start
+    first-two : (later : List Timed) (t s : Timed) (rest : List Timed) → later ≡ s ∷ rest → IsNonDecreasingBy (λ (r : Timed). r.start) (t ∷ later) →
+        t.start ≤ s.start
     first-two later t s rest is rising =
         let here = rw is at rising in
         here 0 1 t (omega arith) (omega arith)
@@ -221,7 +225,8 @@ one_way (s ∷ rest) (t ∷ later) first second (rises a x xs begins_word up_wor
     sym (filter-first s rest) ∙ same s.start
     ∙ subst (λ (minute : ℕ). filter (starts_at minute) (t ∷ later) ≡ t ∷ filter (starts_at minute) later) (sym start) (filter-first t later) in
     let first_same : s ≡ t = heads_same heads in
-    let rest_same = one_way rest later s.start t.start up_word up_other (λ minute. strip (starts_at minute) t rest later (subst (λ (r : Timed). filter (starts_at minute) (r ∷ rest)
+    let rest_same = one_way rest later s.start t.start up_word up_other
+    (λ minute. strip (starts_at minute) t rest later (subst (λ (r : Timed). filter (starts_at minute) (r ∷ rest)
     ≡ filter (starts_at minute) (t ∷ later)) first_same (same minute))) in
     ap (λ (r : Timed). r ∷ rest) first_same ∙ ap (λ (xs : List Timed). t ∷ xs) rest_same
   where

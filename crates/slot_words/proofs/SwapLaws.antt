@@ -89,11 +89,13 @@ at_places parts rule holds others same =
     each-same (λ p (place : PlaceInfo). unless (holds p place) (broken rule p)) (λ p (place : PlaceInfo). unless (others p place) (broken rule p)) 0
     (places_of parts) (λ p place. ap (λ (b : Bool). unless b (broken rule p)) (same p place))
 
-demand-same : (parts : Parts) (word other : List Timed) (p : ℕ) (place : PlaceInfo) → CountsTheSame parts word other → meets_demand parts other p place ≡ meets_demand parts word p place
+demand-same : (parts : Parts) (word other : List Timed) (p : ℕ) (place : PlaceInfo) → CountsTheSame parts word other →
+    meets_demand parts other p place ≡ meets_demand parts word p place
 unfolding meets_demand
 demand-same parts word other p place counts = rw (counts.charged p) refl
 
-charges-same : (parts : Parts) (word other : List Timed) (p : ℕ) (place : PlaceInfo) → CountsTheSame parts word other → meets_charges parts other p place ≡ meets_charges parts word p place
+charges-same : (parts : Parts) (word other : List Timed) (p : ℕ) (place : PlaceInfo) → CountsTheSame parts word other →
+    meets_charges parts other p place ≡ meets_charges parts word p place
 unfolding meets_charges
 charges-same parts word other p place counts = rw (counts.minutes p, counts.charges p) refl
 
@@ -118,7 +120,8 @@ demurrage-same parts word other counts =
     below-same (place_count_of parts) (λ p. (place_of parts p).demurrage * wait_of parts other p) (λ p. (place_of parts p).demurrage * wait_of parts word p)
     (λ p. ap (λ (last : ℕ). (place_of parts p).demurrage * (last - (place_of parts p).arrival)) (counts.last_end p))
 
-margin-same : (parts : Parts) (word other : List Timed) → earned_of parts other ≡ earned_of parts word → CountsTheSame parts word other → margin_of parts other ≡ margin_of parts word
+margin-same : (parts : Parts) (word other : List Timed) → earned_of parts other ≡ earned_of parts word → CountsTheSame parts word other →
+    margin_of parts other ≡ margin_of parts word
 unfolding margin_of
 margin-same parts word other earned counts =
     ap (λ (n : ℤ). n -ℤ pos (demurrage_of parts other)) earned ∙ ap (λ (n : ℕ). earned_of parts word -ℤ pos n) (demurrage-same parts word other counts)
@@ -143,7 +146,8 @@ stands parts front back s t can_run =
     let all = nil_of_append (step_faults_from parts BySlot [] front) (step_faults_from parts BySlot front (s ∷ t ∷ back))
     (sym (step_faults_from-append parts BySlot [] front (s ∷ t ∷ back)) ∙ can_run) in
     let first = nil_of_append (op_faults parts BySlot front s (length front + 1)) (step_faults_from parts BySlot (front ++ s ∷ []) (t ∷ back)) all.1 in
-    let second = nil_of_append (op_faults parts BySlot (front ++ s ∷ []) t (length (front ++ s ∷ []) + 1)) (step_faults_from parts BySlot (front ++ s ∷ [] ++ t ∷ []) back) first.1 in
+    let second = nil_of_append (op_faults parts BySlot (front ++ s ∷ []) t (length (front ++ s ∷ []) + 1))
+    (step_faults_from parts BySlot (front ++ s ∷ [] ++ t ∷ []) back) first.1 in
     record {
       before = all.0;
       both = record {
@@ -163,7 +167,8 @@ can_run parts front back s t here =
     step_faults_from-append parts BySlot [] front (s ∷ t ∷ back) ∙ rw (before, first, second, later) refl
 
 -- what they find and leave, whichever of them comes first
-moved-swapped : (parts : Parts) (front back : List Timed) (s t : Timed) → SoundPlant parts → independent_of parts s.op t.op ≡ true → Stands parts front back s t →
+moved-swapped : (parts : Parts) (front back : List Timed) (s t : Timed) → SoundPlant parts → independent_of parts s.op t.op ≡ true →
+    Stands parts front back s t →
     Stands parts front back t s
     × (after_step parts (after_step parts (state_after parts front) s) t ≡ after_step parts (after_step parts (state_after parts front) t) s)
 moved-swapped parts front back s t sound independent here =
@@ -176,7 +181,8 @@ moved-swapped parts front back s t sound independent here =
     let later = steps-alike parts (front ++ s ∷ t ∷ []) (front ++ t ∷ s ∷ []) back (swapped_alike parts front s t moved) in
     (record { before = here.before; both = round; later = sym later ∙ here.later }, moved)
 
-earning-kept : (parts : Parts) (front : List Timed) (s t : Timed) → independent_of parts s.op t.op ≡ true → earned_at parts (front ++ s ∷ []) t ≡ earned_at parts front t
+earning-kept : (parts : Parts) (front : List Timed) (s t : Timed) → independent_of parts s.op t.op ≡ true →
+    earned_at parts (front ++ s ∷ []) t ≡ earned_at parts front t
 unfolding earned_at
 earning-kept parts front s t independent =
     let apart = keep_apart parts s t (apart_from_independent parts s.op t.op independent) in
@@ -219,7 +225,8 @@ swap_keeps parts front back s t sound independent =
         ap (state_after parts) (two_behind front back t s) ∙ sym (state-alike parts (front ++ s ∷ t ∷ []) (front ++ t ∷ s ∷ []) back alike)
         ∙ sym (ap (state_after parts) (two_behind front back s t))
 
-    legal-swapped : (parts : Parts) (word other : List Timed) → IsLegalIn parts BySlot word → CanRun parts BySlot other → state_after parts other ≡ state_after parts word →
+    legal-swapped : (parts : Parts) (word other : List Timed) → IsLegalIn parts BySlot word → CanRun parts BySlot other →
+        state_after parts other ≡ state_after parts word →
         CountsTheSame parts word other → IsLegalIn parts BySlot other
     legal-swapped parts word other legal runs held counts =
         first_broken-accepted parts BySlot other runs ∙ ap first_of (ends-same parts word other held counts)

@@ -37,7 +37,8 @@ swap_split front back s t k count =
     let first = get_or_at front s (t ∷ back) s k count in
     let second = ap (λ (xs : List Timed). get_or xs (k + 1) s) (apart s) ∙ get_or_at (front ++ s ∷ []) t back s (k + 1) (long s) in
     let here = set_at front s (t ∷ back) t k count in
-    let there = ap (λ (xs : List Timed). set xs (k + 1) s) (apart t) ∙ set_at (front ++ t ∷ []) t back s (k + 1) (long t) ∙ append_assoc front (t ∷ []) (s ∷ back) in
+    let there = ap (λ (xs : List Timed). set xs (k + 1) s) (apart t) ∙ set_at (front ++ t ∷ []) t back s (k + 1) (long t)
+    ∙ append_assoc front (t ∷ []) (s ∷ back) in
     sym (swap_is word k (k + 1) s (omega arith) (omega arith))
     ∙ rw (first, second) (ap (λ (xs : List Timed). set xs (k + 1) s) here ∙ there)
 
@@ -62,7 +63,8 @@ swap_is_equivalent parts word k within independent =
     subst (λ (other : List Timed). AreEquivalent parts word other) (sym swapped)
     (subst (λ (first : List Timed). AreEquivalent parts first (front ++ t ∷ s ∷ back)) (sym split) (one_swap parts front back s t apart))
 
-pub swap_at_is_equivalent : (parts : Parts) (word : List Timed) (at : ℕ) → 1 ≤ at → at < length word → independent_of parts (op_at word (at - 1)) (op_at word at) ≡ true →
+pub swap_at_is_equivalent : (parts : Parts) (word : List Timed) (at : ℕ) → 1 ≤ at → at < length word →
+    independent_of parts (op_at word (at - 1)) (op_at word at) ≡ true →
     AreEquivalent parts word (swap word (at - 1) at)
 swap_at_is_equivalent parts word at some within independent =
     let next : at - 1 + 1 ≡ at = omega arith in

@@ -6,8 +6,8 @@
 //! independent neighbours keep every rule, what each place holds in the end, and the margin ([`word_laws`], [`swap`]);
 //! and a word that breaks no rule is a legal plan of the same margin once it is sorted by starts ([`by_start`]).
 //!
-//! Begin with `specs/Swaps` and `specs/Laws`, then `words`. Of the proofs, `MoveLaws` has two operations that commute on
-//! what places hold, `PairLaws` each rule on two operations that change places, `SwapLaws` the swap within a word.
+//! Begin with `specs/Swaps` and `specs/Laws`, then `words`. Of the proofs, `MoveLaws` has two operations that commute
+//! on what places hold, `PairLaws` each rule on two operations that change places, `SwapLaws` the swap within a word.
 #![tactic(auto)]
 
 mod laws;

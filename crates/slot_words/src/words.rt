@@ -1,5 +1,6 @@
 ghost use Rattle.std.specs.Prelude.{◌≡◌, ◌-◌, ◌<◌, ◌≤◌, true, length, IfOk, slice_index_or};
 ghost use Rattle.std.specs.List.{swap};
+ghost use Rattle.std.specs.List.Sorted.{IsPermutation};
 ghost use Rattle.limits.specs.declared.TheConstants.{MOST_SLOTS};
 ghost use Rattle.plant_model.specs.Relations.{independent_of};
 ghost use Rattle.replay_core.specs.declared.order.Order.TheVariants.{BySlot};
@@ -31,6 +32,7 @@ pub fn swap(plant: &Plant, word: &mut Word, at: u32)
     ensures value { word.new ≡ swap word.old (at - 1) at }
     ensures equivalent { AreEquivalent plant.now word.old word.new }
     ensures same { MeansTheSame plant.now word.old word.new }
+    ensures entries { IsPermutation word.old word.new }
 {
     word_laws(plant);
     word.as_mut_slice().swap(at as usize - 1, at as usize);

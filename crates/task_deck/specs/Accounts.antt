@@ -21,9 +21,10 @@ abbrev pub AreTaken : Takes → ℕ → List (List TaskParts) → Type 0
 AreTaken takes pass [] = Unit {0}
 AreTaken takes pass (tasks ∷ more) = (tasks ≡ taken_by (suc pass) takes) × AreTaken takes (suc pass) more
 
--- the account of a deck: in one order, that of pushing, each task that was pushed left the deck once. The owner took what
--- it popped and then what was left, each pass what it stole, and nobody else took any
-pub record IsAccount (pushed popped : List TaskParts) (stolen : List (List TaskParts)) (left : List TaskParts) : Type 0 where
+-- the account of a deck: in one order, that of pushing, each task that was pushed left the deck once. The owner took
+-- what it popped and then what was left, each pass what it stole, and nobody else took any
+pub record IsAccount (pushed popped : List TaskParts) (stolen : List (List TaskParts)) (left : List TaskParts) :
+    Type 0 where
   pub takes : Takes
   pub pushed_all : pushed ≡ tasks_of takes
   pub owner : popped ++ left ≡ taken_by 0 takes

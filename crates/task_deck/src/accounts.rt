@@ -18,7 +18,8 @@ use std::alloc::{AllocError, Global};
 fn take_back(deque: &mut Deque, pass: DoorPass)
     requires of { IsPassOfDeck (worker_deque deque.old) pass }
     requires owns { (worker_view deque.old).owns ≡ true }
-    ensures same { (worker_deque deque.new ≡ worker_deque deque.old) × (worker_flavor deque.new ≡ worker_flavor deque.old) }
+    ensures same { (worker_deque deque.new ≡ worker_deque deque.old) ×
+        (worker_flavor deque.new ≡ worker_flavor deque.old) }
     ensures known { worker_view deque.new ≡ with_known (worker_view deque.old) (view pass.mark) }
 {
     let DoorPass { mark, number: _ } = pass;
@@ -30,7 +31,8 @@ fn take_back_all(deque: &mut Deque, mut passes: DoorPasses)
     requires of { (pass : _) → Contains passes pass → IsPassOfDeck (worker_deque deque.old) pass }
     requires owns { (worker_view deque.old).owns ≡ true }
     requires none { (worker_view deque.old).known ≡ [] }
-    ensures same { (worker_deque deque.new ≡ worker_deque deque.old) × (worker_flavor deque.new ≡ worker_flavor deque.old) }
+    ensures same { (worker_deque deque.new ≡ worker_deque deque.old) ×
+        (worker_flavor deque.new ≡ worker_flavor deque.old) }
     ensures known { worker_view deque.new ≡ record (worker_view deque.old) { known = known_of passes } }
 {
     while let Some(pass) = passes.pop() {
@@ -62,7 +64,8 @@ pub fn account(
     requires one { deck_behind door ≡ deck_of owner }
     requires passes { ArePassesFrom (deck_of owner) 0 passes }
     requires all { length passes ≡ (owner_view owner).passes }
-    ensures { IfOk result (λ account. IsAccount (owner_view owner).pushed (owner_view owner).popped (stolen_by passes) account.left) }
+    ensures { IfOk result
+        (λ account. IsAccount (owner_view owner).pushed (owner_view owner).popped (stolen_by passes) account.left) }
 {
     let Owner {
         mut deque,

@@ -13,7 +13,8 @@ impl Door {
         requires { IsPassOfDeck (deck_behind self.now) pass.old }
         ensures of { IsPassOfDeck (deck_behind self.now) pass.new }
         ensures rule { MatchStolen result (pass_view pass.new ≡ pass_view pass.old)
-            (λ task. pass_view pass.new ≡ record (pass_view pass.old) { stolen = (pass_view pass.old).stolen ++ task ∷ [] }) }
+            (λ task. pass_view pass.new
+            ≡ record (pass_view pass.old) { stolen = (pass_view pass.old).stolen ++ task ∷ [] }) }
     {
         match self.stealer.steal_as::<Taking>(&mut pass.mark) {
             Steal::Success(task) => Stolen::Got(task),

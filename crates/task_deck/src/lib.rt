@@ -8,8 +8,8 @@
 //! ([`account`]). As long as there is no pass, a pop gives the first task that was pushed and not yet popped. That a
 //! deck was empty where a thief found it so is the word of the crate below; no clause can say it. No call waits.
 //!
-//! Begin with `owner`, after `specs/Decks.antt` and `specs/Accounts.antt`. `specs/inside` has the rule that holds between
-//! any two steps, of which all this follows.
+//! Begin with `owner`, after `specs/Decks.antt` and `specs/Accounts.antt`. `specs/inside` has the rule that holds
+//! between any two steps, of which all this follows.
 #![tactic(auto)]
 
 mod accounts;

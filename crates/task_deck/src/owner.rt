@@ -28,8 +28,10 @@ impl Owner {
     #[tactic(auto, using(crate::proofs::DealLaws::forks))]
     pub fn pass(&mut self) -> Result<DoorPass, AllocError>
         ensures deck { deck_of self.new ≡ deck_of self.old }
-        ensures made { IfOk result (λ _. owner_view self.new ≡ record (owner_view self.old) { passes = (owner_view self.old).passes + 1 }) }
-        ensures pass { IfOk result (λ pass. pass_view pass ≡ record { number = (owner_view self.old).passes; stolen = [] }) }
+        ensures made { IfOk result
+            (λ _. owner_view self.new ≡ record (owner_view self.old) { passes = (owner_view self.old).passes + 1 }) }
+        ensures pass { IfOk result
+            (λ pass. pass_view pass ≡ record { number = (owner_view self.old).passes; stolen = [] }) }
         ensures of { IfOk result (IsPassOfDeck (deck_of self.old)) }
         ensures err { OnErr result (owner_view self.new ≡ owner_view self.old) }
     {
@@ -45,7 +47,8 @@ impl Owner {
     pub fn push(&mut self, task: Task) -> Result<(), Task>
         ensures deck { deck_of self.new ≡ deck_of self.old }
         ensures rule { MatchResult result
-            (λ _. owner_view self.new ≡ record (owner_view self.old) { pushed = (owner_view self.old).pushed ++ task ∷ [] })
+            (λ _. owner_view self.new
+            ≡ record (owner_view self.old) { pushed = (owner_view self.old).pushed ++ task ∷ [] })
             (λ back. (back ≡ task) × (owner_view self.new ≡ owner_view self.old)) }
     {
         self.deque.push_as::<Pushing>(task)
@@ -55,10 +58,12 @@ impl Owner {
     pub fn pop(&mut self) -> Option<Task>
         ensures deck { deck_of self.new ≡ deck_of self.old }
         ensures rule { MatchOption result (owner_view self.new ≡ owner_view self.old)
-            (λ task. owner_view self.new ≡ record (owner_view self.old) { popped = (owner_view self.old).popped ++ task ∷ [] }) }
+            (λ task. owner_view self.new
+            ≡ record (owner_view self.old) { popped = (owner_view self.old).popped ++ task ∷ [] }) }
         ensures alone { (owner_view self.old).passes ≡ 0 → MatchOption result
             ((owner_view self.old).pushed ≡ (owner_view self.old).popped)
-            (λ task. (rest : List TaskParts) × ((owner_view self.old).pushed ≡ (owner_view self.old).popped ++ task ∷ [] ++ rest)) }
+            (λ task. (rest : List TaskParts) ×
+            ((owner_view self.old).pushed ≡ (owner_view self.old).popped ++ task ∷ [] ++ rest)) }
     {
         take(&mut self.deque)
     }

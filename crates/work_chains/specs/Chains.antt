@@ -1,6 +1,6 @@
--- What a worker does with a task, as plain lists: it follows the task down by its left parts, writes a note at each node,
--- and hands on the right parts. Of a task only the number of its node and its box count here. A box may be of any kind,
--- and so may a split, which has a left and a right part of a box.
+-- What a worker does with a task, as plain lists: it follows the task down by its left parts, writes a note at each
+-- node, and hands on the right parts. Of a task only the number of its node and its box count here. A box may be of any
+-- kind, and so may a split, which has a left and a right part of a box.
 use Rattle.std.specs.Prelude.{◌≡◌, ℕ, ◌+◌, ◌*◌, Option, Some, None, List, [], ◌∷◌, ◌⊎◌, Contains}
 use Rattle.number_counts.specs.Counts.{one, times, HasEachBelow}
 
@@ -70,15 +70,15 @@ module _ {B S : Type 0} (left right : B → S → B) (root : B) (notes : List (N
     at_right : (id : ℕ) (box : B) (ticket : ℕ) (split : S) → Reaches id box
         → Contains notes (inner_note id box ticket split) → Reaches (2 * ticket + 2) (right box split)
 
-  -- notes of a whole search tree with t nodes divided: its nodes are those from 0 to 2t, its tickets those below t, each
-  -- once, and each node is reached from the root with the box that it has in its note
+  -- notes of a whole search tree with t nodes divided: its nodes are those from 0 to 2t, its tickets those below t,
+  -- each once, and each node is reached from the root with the box that it has in its note
   pub record AreSettled (t : ℕ) : Type 0 where
     pub ids : HasEachBelow (2 * t + 1) (ids_of notes)
     pub tickets : HasEachBelow t (tickets_of notes)
     pub reached : (note : Noted B S) → Contains notes note → Reaches note.id note.box
 
--- what was taken is the root's task and what was handed on: each number of a node was taken as often as it was handed on,
--- the root's once more, and no task was taken but these
+-- what was taken is the root's task and what was handed on: each number of a node was taken as often as it was handed
+-- on, the root's once more, and no task was taken but these
 pub record TakesAllHanded {B : Type 0} (root : B) (taken handed : List (ℕ × B)) : Type 0 where
   pub counts : (x : ℕ) → times x (task_ids taken) ≡ one x 0 + times x (task_ids handed)
   pub tasks : (task : ℕ × B) → Contains taken task → (task ≡ (0, root)) ⊎ Contains handed task

@@ -28,8 +28,8 @@ ChainsDivide =
     → AreBoxChains taken (notes ++ inner_note id box ticket split ∷ [])
     (handed ++ (2 * ticket + 2, right_of box split) ∷ []) (Some (2 * ticket + 1, left_of box split))
 
--- notes that are the chains of all tasks, of the root's and of whatever was handed on, are those of a whole search tree,
--- if their tickets are the numbers below t, each once. No order of the tasks, the notes or the tickets matters
+-- notes that are the chains of all tasks, of the root's and of whatever was handed on, are those of a whole search
+-- tree, if their tickets are the numbers below t, each once. No order of the tasks, the notes or the tickets matters
 abbrev pub ChainsSettle : Type 0
 ChainsSettle =
     (root : List Slot) (t : ℕ) (taken handed : List BoxTask) (notes : List BoxNote)

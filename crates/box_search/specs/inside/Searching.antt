@@ -19,8 +19,7 @@ use Rattle.box_search.specs.Searched.{best_margin}
 use Rattle.box_search.specs.inside.Growing.{IsGrown, IsBoxAt, open_leaf}
 
 -- how a leaf was left: open only where the budget was spent and its box has at least two points, else only where its
--- value
--- does not beat the best margin
+-- value does not beat the best margin
 abbrev pub IsClosed : Setting → (t budget : ℕ) → Option ℤ → List Slot → LeafKind → Type 0
 IsClosed setting t budget best box (Dead at) = Unit {0}
 IsClosed setting t budget best box (Void terms) = Unit {0}
@@ -62,8 +61,7 @@ pub record IsFoundValue (setting : Setting) (tree : List Node) (boxes : List (Li
   pub examined : IsWaiting pending id → ⊥
 
 -- a tree with t tickets of a budget, whose boxes wait or are settled; best is the greatest margin of a plan that was
--- found,
--- bound the greatest value of a leaf
+-- found, bound the greatest value of a leaf
 pub record IsUnderway (setting : Setting) (budget t : ℕ) (tree : List Node) (boxes : List (List Slot))
     (pending : List Pending) (best bound : Option ℤ) : Type 0 where
   pub grown : IsGrown (root_box setting.case) t tree boxes

@@ -10,8 +10,7 @@ use Rattle.replay_core.specs.inside.Tally.{AreTallies}
 use Rattle.replay_core.specs.inside.Latest.{start_of, end_of, AreLatest}
 
 -- the operations broke no rule, there is room for as many as a plan may have, and each table is what it is of those
--- that
--- have run
+-- that have run
 pub record IsReplay (inside : Inside) : Type 0 where
   pub can_run : CanRun inside.plant.now inside.order inside.steps.items
   pub few : length inside.steps.items ≤ MOST_STEPS

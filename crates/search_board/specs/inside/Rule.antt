@@ -19,8 +19,9 @@ abbrev pub below : ℕ → ℕ → ℕ
 below x zero = 0
 below x (suc n) = below x n + one x n
 
--- how each view fits the words: it has the board's budget and stands for a seat, unless it was joined away and is empty; it
--- was told that no ticket is left only where the counter is past the budget; it saw and offered no more than the best
+-- how each view fits the words: it has the board's budget and stands for a seat, unless it was joined away and is
+-- empty; it was told that no ticket is left only where the counter is above the budget; it saw and offered no more than
+-- the best
 pub record Fits (budget counter best : ℕ) (v : Known) : Type 0 where
   pub budgets : v.gone ≡ false → v.budget ≡ budget
   pub alive : v.gone ≡ false → 0 < v.stands
@@ -33,9 +34,9 @@ pub record Fits (budget counter best : ℕ) (v : Known) : Type 0 where
 abbrev pub Reached : ℕ → List Known → Type 0
 Reached best views = (id : ℕ) × (v : Known) × (get_elem? views id ≡ some v) × (v.offer ≡ best)
 
--- the whole rule: of the numbers below the lesser of counter and budget each is one ticket of one view. The counter runs
--- past the budget once at most for each view that was told so or joined away; the seats that views stand for, and those
--- that they may still make, are as many as there may be
+-- the whole rule: of the numbers below the lesser of counter and budget each is one ticket of one view. The counter
+-- runs past the budget once at most for each view that was told so or joined away; the seats that views stand for, and
+-- those that they may still make, are as many as there may be
 pub record Holds (budget counter best : ℕ) (views : List Known) : Type 0 where
   pub small : budget < 2 ^ 32
   pub margins : best ≤ most_word

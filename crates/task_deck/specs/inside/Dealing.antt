@@ -43,8 +43,8 @@ pub record IsNext (v : Hand) (tasks : List TaskParts) : Type 0 where
   pub few : v.owns ≡ true → length (v.taken ++ tasks) ≤ length v.pushed
   pub alone : v.owns ≡ true → v.passes ≡ 0 → (rest : List TaskParts) × (v.pushed ≡ v.taken ++ tasks ++ rest)
 
--- what the owner learns when the deck is empty: each task that it pushed has left, to itself, to a pass that it knows or to
--- one that it does not know yet
+-- what the owner learns when the deck is empty: each task that it pushed has left, to itself, to a pass that it knows
+-- or to one that it does not know yet
 pub record IsDealtOut (v : Hand) : Type 0 where
   pub takes : Takes
   pub pushed : v.pushed ≡ tasks_of takes

@@ -7,4 +7,5 @@ use Rattle.task_deck.specs.Decks.{pass_view}
 -- each number with what was stolen by the pass
 abbrev pub known_of : List DoorPass → List Taken
 known_of [] = []
-known_of (pass ∷ passes) = (record { pass = (pass_view pass).number; tasks = (pass_view pass).stolen }) ∷ known_of passes
+known_of (pass ∷ passes) = (record { pass = (pass_view pass).number; tasks = (pass_view pass).stolen }) ∷ known_of
+    passes

@@ -14,5 +14,6 @@ returns c =
       boxes = root_boxes_are_boxes parts boxes.roots sound;
       forms = plans_have_forms parts boxes.idle boxes.runs (plans.ranges parts) sound;
       same = plain_cases_say_the_same parts;
-      normal = λ slots begun. plans_have_normal_forms parts slots begun boxes.idle boxes.runs (plans.ranges parts) sound words.plans words.meaning words.entries normal.forms;
+      normal = λ slots begun. plans_have_normal_forms parts slots begun boxes.idle boxes.runs (plans.ranges parts) sound words.plans words.meaning words.entries
+          normal.forms;
     }

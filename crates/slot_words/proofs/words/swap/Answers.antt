@@ -16,3 +16,6 @@ returns-clause-equivalent c =
 
 pub returns-clause-same : goal.returns-clause-same
 returns-clause-same c = c.word_laws.ensures.meaning [] _ _ (returns-clause-equivalent c)
+
+pub returns-clause-entries : goal.returns-clause-entries
+returns-clause-entries c = c.word_laws.ensures.entries _ _ (returns-clause-equivalent c)
