@@ -22,10 +22,11 @@ use Rattle.plan_text.specs.OpLine.{IsOpLine}
 use Rattle.dossier_text.specs.declared.dossier.Dossier.{Dossier}
 use Rattle.dossier_text.specs.declared.dossier.Word3.{Word3}
 use Rattle.dossier_text.specs.declared.dossier.Word3.TheVariants.{Plan, Infeasible, Open3}
-use Rattle.dossier_text.specs.Ranges.{IsReadable, AreOpLines}
+use Rattle.dossier_text.specs.Ranges.{IsReadable}
+use Rattle.plan_text.specs.PlanText.{AreOpLines}
 use Rattle.dossier_check.specs.Accepted.{FitsAnswer, IsGivenPlan, IsAccepted}
 use Rattle.dossier_check.specs.Claims.{AcceptedClaimsAreTrue}
-use Rattle.dossier_check.specs.Plans.{timed_of, plan_of}
+use Rattle.plan_text.specs.Plans.{timed_of, plan_of}
 use Rattle.box_search.specs.declared.search.Found.{Found}
 use Rattle.box_search.specs.Searched.{IsFound, best_margin}
 use Rattle.crude_run.specs.declared.conclude.Head.{Head}

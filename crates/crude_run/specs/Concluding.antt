@@ -4,8 +4,8 @@ use Rattle.plant_model.specs.declared.parts.Parts.{Parts}
 use Rattle.plan_text.specs.declared.op_line.OpLine.{OpLine}
 use Rattle.replay_core.specs.declared.planned.Planned.{Planned}
 use Rattle.dossier_text.specs.declared.dossier.Word3.TheVariants.{Plan, Infeasible, Open3}
-use Rattle.dossier_text.specs.Ranges.{AreOpLines}
-use Rattle.dossier_check.specs.Plans.{plan_of}
+use Rattle.plan_text.specs.PlanText.{AreOpLines}
+use Rattle.plan_text.specs.Plans.{plan_of}
 use Rattle.crude_run.specs.declared.conclude.Head.{Head}
 
 -- these are the lines of the plan

@@ -12,7 +12,7 @@ use Rattle.slot_forms.specs.Cases.{IsCasePlan, plain, SaysTheSame, PlainCasesSay
 use Rattle.leaf_value.specs.TreeValue.{IsTrueBound, TreeBoundsAreTrue}
 use Rattle.dossier_text.specs.declared.dossier.Word3.{Word3}
 use Rattle.dossier_text.specs.declared.dossier.Word3.TheVariants.{Plan, Infeasible, Open3}
-use Rattle.dossier_check.specs.Plans.{plan_of}
+use Rattle.plan_text.specs.Plans.{plan_of}
 use Rattle.dossier_check.specs.Frames.{setting_of}
 use Rattle.dossier_check.specs.Accepted.{FitsAnswer, IsGivenPlan}
 use Rattle.dossier_check.specs.Claims.{IsSo, AcceptedClaimsAreTrue}

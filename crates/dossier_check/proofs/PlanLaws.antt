@@ -18,7 +18,7 @@ use Rattle.replay_core.specs.Rules.{is_known, lasts, keeps_window, keeps_volume,
 use Rattle.replay_core.specs.State.{state_after}
 use Rattle.replay_core.specs.Legal.{broken, own_faults, order_faults, place_faults, op_faults, step_faults_from, step_faults, vessel_faults, demand_faults, unit_faults, end_faults, faults_at_places, plan_faults, first_broken, first_broken_in}
 use Rattle.dossier_check.specs.declared.verdict.Reason.{Reason}
-use Rattle.dossier_check.specs.Plans.{timed_of, plan_of}
+use Rattle.plan_text.specs.Plans.{timed_of, plan_of}
 use Rattle.dossier_check.specs.Reasons.{rule_reason}
 
 -- ---- the operations of lines

@@ -22,7 +22,7 @@ use Rattle.dossier_text.specs.declared.dossier.Word3.{Word3}
 use Rattle.dossier_text.specs.declared.dossier.Word3.TheVariants.{Plan, Infeasible, Open3}
 use Rattle.dossier_text.specs.Ranges.{IsReadable}
 use Rattle.dossier_check.specs.declared.verdict.Reason.{Reason}
-use Rattle.dossier_check.specs.Plans.{plan_of}
+use Rattle.plan_text.specs.Plans.{plan_of}
 use Rattle.dossier_check.specs.Frames.{setting_of}
 use Rattle.dossier_check.specs.Accepted.{FitsAnswer, IsGivenPlan, IsAccepted}
 use Rattle.dossier_check.specs.NodeReasons.{reason}

@@ -12,7 +12,7 @@ use Rattle.dossier_text.specs.declared.dossier.CutLine.{CutLine}
 use Rattle.dossier_text.specs.declared.dossier.Dossier.{Dossier}
 use Rattle.dossier_text.specs.declared.dossier.Word3.{Word3}
 use Rattle.dossier_text.specs.declared.dossier.Word3.TheVariants.{Plan, Infeasible, Open3}
-use Rattle.dossier_check.specs.Plans.{plan_of}
+use Rattle.plan_text.specs.Plans.{plan_of}
 use Rattle.dossier_check.specs.Frames.{setting_of, is_lawful_cut}
 
 -- what goes with each answer: with `plan` a plan and its margin, whatever the bound, which is asked for by itself; with

@@ -7,7 +7,7 @@ use Rattle.dossier_text.specs.declared.dossier.Word3.TheVariants.{Plan, Infeasib
 use Rattle.replay_core.specs.declared.timed.Timed.{Timed}
 use Rattle.replay_core.specs.Claim.{IsPlanOf, IsBound, IsInfeasible}
 use Rattle.dossier_check.specs.declared.verdict.Claim.{Claim}
-use Rattle.dossier_check.specs.Plans.{plan_of}
+use Rattle.plan_text.specs.Plans.{plan_of}
 use Rattle.dossier_check.specs.Accepted.{IsAccepted}
 
 -- what a dossier claims of the plans of at most its slots' number of operations: its answer, its plan with the margin,

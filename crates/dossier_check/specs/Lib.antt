@@ -1,4 +1,3 @@
-pub mod Plans
 pub mod Frames
 pub mod Accepted
 pub mod Claims

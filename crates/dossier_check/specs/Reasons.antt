@@ -21,7 +21,7 @@ use Rattle.dossier_text.specs.declared.dossier.Word3.{Word3}
 use Rattle.dossier_text.specs.declared.dossier.Word3.TheVariants.{Plan, Infeasible, Open3}
 use Rattle.dossier_text.specs.Reading.{plan_length, dossier_at}
 use Rattle.dossier_check.specs.declared.verdict.Reason.{Reason}
-use Rattle.dossier_check.specs.Plans.{plan_of}
+use Rattle.plan_text.specs.Plans.{plan_of}
 use Rattle.dossier_check.specs.Frames.{setting_of, is_lawful_cut}
 use Rattle.dossier_check.specs.NodeReasons.{reason, nodes_reasons, greatest_value}
 

@@ -5,7 +5,7 @@ ghost use Rattle.std.specs.Result.{result_err};
 ghost use Rattle.item_lists.specs.Faults.{first_of};
 ghost use Rattle.limits.specs.declared.TheConstants.{MOST_SLOTS, MOST_STEPS};
 ghost use Rattle.replay_core.specs.Margin.{margin_of};
-ghost use Rattle.dossier_check.specs.Plans.{timed_of, plan_of};
+ghost use Rattle.plan_text.specs.Plans.{timed_of, plan_of};
 ghost use Rattle.dossier_check.specs.Reasons.{rule_reason, plan_reasons, margin_reasons, given_reasons};
 ghost use Rattle.dossier_check.specs.inside.Tests.{Tests};
 

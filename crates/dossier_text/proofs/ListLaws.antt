@@ -14,7 +14,8 @@ use Rattle.dossier_text.specs.declared.fault.DossierFault.TheVariants.{Line}
 use Rattle.dossier_text.specs.declared.dossier.CutLine.{CutLine}
 use Rattle.dossier_text.specs.Nodes.{cut_words, node_lines}
 use Rattle.slot_box.specs.Ranges.{IsNodeInRange}
-use Rattle.dossier_text.specs.Ranges.{AreOpLines, IsCutLine}
+use Rattle.dossier_text.specs.Ranges.{IsCutLine}
+use Rattle.plan_text.specs.PlanText.{AreOpLines}
 use Rattle.dossier_text.specs.Text.{plan_lines, cut_lines}
 use Rattle.dossier_text.specs.inside.NodeReading.{node_at}
 use Rattle.dossier_text.specs.inside.HeadReading.{count_at, plan_count_at}

@@ -1,10 +1,9 @@
 -- Which dossiers have a text that is read again: counts and numbers in range, and names that are names.
-use Rattle.std.specs.Prelude.{◌≡◌, ℕ, ◌+◌, ◌*◌, ◌^◌, ◌<◌, ◌≤◌, List, [], ◌∷◌, length, IfSome, FitsSigned}
+use Rattle.std.specs.Prelude.{◌≡◌, ◌+◌, ◌*◌, ◌^◌, ◌<◌, ◌≤◌, length, IfSome, FitsSigned}
 use Rattle.std.specs.Int.{w64}
 use Rattle.std.specs.List.{AllByRecursion}
 use Rattle.limits.specs.declared.TheConstants.{MOST_SLOTS, MOST_NODES, MOST_CUTS, MOST_ROWS, MOST_CRUDES}
-use Rattle.plan_text.specs.declared.op_line.OpLine.{OpLine}
-use Rattle.plan_text.specs.OpLine.{IsOpLine}
+use Rattle.plan_text.specs.PlanText.{AreOpLines}
 use Rattle.slot_box.specs.Ranges.{IsNodeInRange}
 use Rattle.dossier_text.specs.declared.dossier.CutLine.{CutLine}
 use Rattle.dossier_text.specs.declared.dossier.Dossier.{Dossier}
@@ -18,11 +17,6 @@ pub record IsCutLine (cut : CutLine) : Type 0 where
   pub some : 1 ≤ length cut.weights
   pub few : length cut.weights ≤ MOST_CRUDES
   pub weights : AllByRecursion (FitsSigned w64) cut.weights
-
--- lines of operations that are numbered, the first by number
-abbrev pub AreOpLines : ℕ → List OpLine → Type 0
-AreOpLines number [] = Unit {0}
-AreOpLines number (line ∷ lines) = (line.number ≡ number) × IsOpLine line × AreOpLines (number + 1) lines
 
 -- a dossier that can be read: inner nodes, operations and cuts within their limits, the operations numbered from 1, and
 -- one leaf more than inner nodes

@@ -1,6 +1,6 @@
 use Rattle.std.proofs.Common.{◌≡◌, length, take}
-use Rattle.dossier_text.specs.Ranges.{AreOpLines}
-use Rattle.dossier_check.specs.Plans.{plan_of}
+use Rattle.plan_text.specs.PlanText.{AreOpLines}
+use Rattle.plan_text.specs.Plans.{plan_of}
 use Rattle.crude_run.proofs.conclude.op_lines.Given as goal
 
 abbrev pub invariant-loop-i : goal.invariant-loop-i

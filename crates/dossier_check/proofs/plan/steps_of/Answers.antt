@@ -1,6 +1,6 @@
 use Rattle.dossier_check.proofs.PlanLaws.{steps_more}
 use Rattle.std.proofs.Common.{arith, ap, ◌∙◌, ◌≡◌, ◌++◌, ◌∷◌, [], rules}
-use Rattle.dossier_check.specs.Plans.{timed_of}
+use Rattle.plan_text.specs.Plans.{timed_of}
 use Rattle.dossier_check.proofs.plan.steps_of.Goals as goal
 
 pub loop-line-preserved : goal.loop-line-preserved

@@ -1,5 +1,5 @@
 use Rattle.std.proofs.Common.{◌≡◌, take}
-use Rattle.dossier_check.specs.Plans.{plan_of}
+use Rattle.plan_text.specs.Plans.{plan_of}
 use Rattle.dossier_check.proofs.plan.steps_of.Given as goal
 
 abbrev pub invariant-loop-line : goal.invariant-loop-line
