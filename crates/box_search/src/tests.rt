@@ -1,9 +1,10 @@
 use crate::{Found, search_boxes};
-use outer_edge::FreeGate;
+use outer_edge::{FreeGate, Gate};
 use plant_model::{Pair, Plant};
 use replay_core::Timed;
 use sample_plants::{OneCharge, one_charge};
 use std::alloc::Global;
+use std::sync::atomic::{AtomicU64, Ordering};
 use std::test::Fail;
 
 /// The plant with one charge, which is to run at least so often.
@@ -57,5 +58,31 @@ fn finds_no_plan_where_there_is_none(rt: HostRuntime) -> Result<(), Fail> {
     let found = searched(rt.alloc(), 2, 45)?;
     assert!(rt; found.best.is_none());
     assert_eq!(rt; found.bound, None);
+    Ok(())
+}
+
+// Adds up the numbers that it is called with, each one more.
+#[derive(Drop)]
+struct Counter {
+    sum: AtomicU64,
+}
+
+impl Gate for Counter {
+    fn ticket(&self, worker: u32, drawn: u32) {
+        self.sum
+            .fetch_add(u64::from(worker) + u64::from(drawn) + 1, Ordering::SeqCst);
+    }
+}
+
+// Five tickets are drawn: 1 + 2 + 3 + 4 + 5.
+#[test]
+fn calls_the_gate_before_each_ticket(rt: HostRuntime) -> Result<(), Fail> {
+    let plant = plant(rt.alloc(), 0)?;
+    let gate = Counter {
+        sum: AtomicU64::new(0),
+    };
+    let found = search_boxes(rt.alloc(), &plant, 1, 5, &gate)?;
+    assert_eq!(rt; found.tickets, 5);
+    assert_eq!(rt; gate.sum.load(Ordering::SeqCst), 15);
     Ok(())
 }

@@ -44,11 +44,12 @@ mod tests {
     use std::fmt::Display;
     use std::io::ErrorKind;
 
-    // An output that takes nothing more.
+    // An output that takes nothing more, or a byte at a time.
     #[derive(Drop)]
     enum Stuck {
         Full,
         Closed,
+        Slow,
     }
 
     impl Print for Stuck {
@@ -67,6 +68,7 @@ mod tests {
         fn write_some(&self, bytes: &[u8]) -> io::Result<usize> {
             match self {
                 Stuck::Full => Ok(0),
+                Stuck::Slow => Ok(bytes.len().min(1)),
                 Stuck::Closed => {
                     self.write_all(bytes)?;
                     Ok(bytes.len())
@@ -91,5 +93,13 @@ mod tests {
             assert_eq!(rt; write_all(&mut sink, b"oil"), Err(SinkFailed));
             assert_eq!(rt; sink.faults, 2);
         }
+    }
+
+    // No clause says of the standard output which bytes it took.
+    #[test]
+    fn tells_how_many_were_taken(rt: HostRuntime) {
+        let mut sink = OutSink::new(&Stuck::Slow);
+        assert_eq!(rt; sink.write(b"crude"), Ok(1));
+        assert_eq!(rt; sink.faults, 0);
     }
 }

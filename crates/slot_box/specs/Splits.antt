@@ -1,11 +1,11 @@
 -- How a box is divided in two.
-use Rattle.std.specs.Prelude.{◌≡◌, ℕ, ◌+◌, ◌-◌, ◌/◌, ◌<◌, ◌≤◌, Bool, ◌&&◌, nat_lt, nat_le, List, length, slice_set, ◌⊎◌, IsBitSet, bit_and, count_ones}
+use Rattle.std.specs.Prelude.{◌≡◌, ℕ, ◌+◌, ◌-◌, ◌/◌, ◌<◌, ◌≤◌, Bool, ◌&&◌, nat_lt, nat_le, List, length, take, slice_set, ◌⊎◌, IsBitSet, bit_and, ⊤}
 use Rattle.slot_box.specs.declared.slot.Span.{Span}
 use Rattle.slot_box.specs.declared.slot.Slot.{Slot}
 use Rattle.slot_box.specs.declared.split.SplitKind.{SplitKind}
 use Rattle.slot_box.specs.declared.split.SplitKind.TheVariants.{Ops, Volume, Start, End}
 use Rattle.slot_box.specs.declared.split.Split.{Split}
-use Rattle.slot_box.specs.Boxes.{IsPoint, HasPoint, slot_at, entry_at}
+use Rattle.slot_box.specs.Boxes.{IsPoint, HasPoint, slot_at, entry_at, points_of}
 use Rattle.slot_box.specs.Entries.{Entry, bit_of, volume_of, start_of, end_of}
 use Rattle.slot_box.specs.Slots.{span, operations_of, live_of}
 
@@ -78,18 +78,17 @@ is_lawful slots split =
 abbrev pub IsMiddle : Span → ℕ → Type 0
 IsMiddle s x = x ≡ s.lo + (s.hi - s.lo + 1) / 2
 
--- the numbers of entries of two sets differ by at most one
-abbrev pub AreNearlyAlike : ℕ → ℕ → Type 0
-AreNearlyAlike a b = (count_ones a ≤ count_ones b + 1) × (count_ones b ≤ count_ones a + 1)
+-- where the kind cuts an interval of the slot, it does so in the middle
+abbrev pub CutsInMiddle : Slot → SplitKind → Type 0
+CutsInMiddle s (Ops set) = ⊤
+CutsInMiddle s (Volume x) = IsMiddle s.volume x
+CutsInMiddle s (Start x) = IsMiddle s.start x
+CutsInMiddle s (End x) = IsMiddle s.end x
 
--- the halves are as like as can be: the numbers of live entries that go left and right differ by at most
--- one, or the interval is cut in its middle
-abbrev pub IsEvenHalving : Slot → SplitKind → Type 0
-IsEvenHalving s (Ops set) = AreNearlyAlike (bit_and (live_of s) set) (live_of s - bit_and (live_of s) set)
-IsEvenHalving s (Volume x) = IsMiddle s.volume x
-IsEvenHalving s (Start x) = IsMiddle s.start x
-IsEvenHalving s (End x) = IsMiddle s.end x
+-- likewise a split of the box
+abbrev pub IsCutInMiddle : List Slot → Split → Type 0
+IsCutInMiddle slots split = CutsInMiddle (slot_at slots split.slot) split.kind
 
--- an even split halves its slot so
-abbrev pub IsEvenSplit : List Slot → Split → Type 0
-IsEvenSplit slots split = IsEvenHalving (slot_at slots split.slot) split.kind
+-- each slot before the one that is divided can be filled in one way only
+abbrev pub IsAtFirst : List Slot → Split → Type 0
+IsAtFirst slots split = points_of (take (split.slot - 1) slots) ≡ 1

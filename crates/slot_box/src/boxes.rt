@@ -31,7 +31,7 @@ impl SlotBox {
     ghost use Rattle.slot_box.specs.Boxes.{IsBox, IsPoint, HasPoint, HasOnePoint, IsWithinRoot, StaysWithinRoot, RunsAlways, root_of, slot_at, only_point};
     ghost use Rattle.slot_box.specs.Counting.{IsCountOf};
     ghost use Rattle.slot_box.specs.Slots.{IsLive, IsFixedTo, live_of, fixed_of};
-    ghost use Rattle.slot_box.specs.Splits.{IsLawfulSplit, IsPartition, left_of, right_of, is_lawful};
+    ghost use Rattle.slot_box.specs.Splits.{IsLawfulSplit, IsAtFirst, IsCutInMiddle, IsPartition, left_of, right_of, is_lawful};
 
     /// The box of all that `ops` operations, volumes up to `volume` and minutes up to `horizon` allow
     /// in `n` slots.
@@ -121,11 +121,13 @@ impl SlotBox {
     }
 
     /// A lawful split of a box with more than one point, at the first slot that can be filled in more than
-    /// one way.
+    /// one way. An interval is cut in its middle.
     pub fn division(&self) -> Option<Split>
         ensures lawful { IfSome result (IsLawfulSplit self.now) }
         ensures none { (result ≡ None) ↔ HasOnePoint self.now }
         ensures several { IfSome result (λ _. 2 ≤ points_of self.now) }
+        ensures first { IfSome result (IsAtFirst self.now) }
+        ensures middle { IfSome result (IsCutInMiddle self.now) }
     {
         if self.is_point() {
             None

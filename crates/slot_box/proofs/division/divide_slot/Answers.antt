@@ -16,7 +16,7 @@ divide_numbers-requires-clause-fixed c =
     let one = subst (λ live. ones live ≡ 1) c.live-live.ensures (eqb-true _ _ (sym c.is_power_of_two.ensures ∙ c.if-not-is_power_of_two.false)) in
     live_below c.args.slot c.requires one (λ top. c.if-live.false (c.live-live.ensures ∙ top))
 
-pub returns-then-not-is_power_of_two : goal.returns-then-not-is_power_of_two
-returns-then-not-is_power_of_two c =
+pub returns-then-not-is_power_of_two-clause-divides : goal.returns-then-not-is_power_of_two-clause-divides
+returns-then-not-is_power_of_two-clause-divides c =
     let several = several_from (live_of c.args.slot) (subst (λ live. false ≡ is_power_of_two live) c.live-live.ensures c.if-not-is_power_of_two.ensures) in
     rw c.live-live.ensures (divides_first c.args.slot c.requires several)

@@ -8,7 +8,7 @@ pub returns-else-is_point-clause-lawful : goal.returns-else-is_point-clause-lawf
 returns-else-is_point-clause-lawful c =
     let same : c.deref.result.now ≡ c.args.self.now = c.deref.ensures.value ∙ c.self.view_is in
     let box = subst IsBox c.self.view_is c.self.invariant in
-    rw (← same) (lawful_found c.deref.result.now c.divide_first.result (rw same box) c.divide_first.ensures)
+    rw (← same) (lawful_found c.deref.result.now c.divide_first.result (rw same box) c.divide_first.ensures.lawful)
 
 pub returns-else-is_point-clause-several : goal.returns-else-is_point-clause-several
 returns-else-is_point-clause-several c =
