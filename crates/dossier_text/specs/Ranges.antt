@@ -2,7 +2,7 @@
 use Rattle.std.specs.Prelude.{◌≡◌, ◌+◌, ◌*◌, ◌^◌, ◌<◌, ◌≤◌, length, IfSome, FitsSigned}
 use Rattle.std.specs.Int.{w64}
 use Rattle.std.specs.List.{AllByRecursion}
-use Rattle.limits.specs.declared.TheConstants.{MOST_SLOTS, MOST_NODES, MOST_CUTS, MOST_ROWS, MOST_CRUDES}
+use Rattle.limits.specs.declared.TheConstants.{MOST_SLOTS, MOST_NODES, MOST_CUTS, MOST_CRUDES}
 use Rattle.plan_text.specs.PlanText.{AreOpLines}
 use Rattle.slot_box.specs.Ranges.{IsNodeInRange}
 use Rattle.dossier_text.specs.declared.dossier.CutLine.{CutLine}

@@ -106,7 +106,7 @@ mutual
   first_members no_members h = refl
   first_members (member k d ms) h =
       one_member k _ _ _ _ h.0 (compact-plain d h.1) (later_members ms h.2)
-          ∙ sym (append_assoc (member_text k (text_of d)) (behind_commas (member_texts ms)) (125 ∷ []))
+      ∙ sym (append_assoc (member_text k (text_of d)) (behind_commas (member_texts ms)) (125 ∷ []))
 
   later_members : (ms : Members) → MembersArePlain ms → members_text true ms ≡ behind_commas (member_texts ms) ++ 125 ∷ []
   later_members no_members h = refl

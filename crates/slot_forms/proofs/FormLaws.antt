@@ -5,7 +5,7 @@ use Rattle.std.specs.Option.{is_none}
 use Rattle.std.proofs.lemmas.Bool.{and_from}
 use Rattle.std.proofs.lemmas.List.{append-nil}
 use Rattle.std.proofs.lemmas.List.Elements.{All-head, All-tail}
-use Rattle.limits.specs.declared.TheConstants.{MOST_SLOTS, MOST_VOLUME}
+use Rattle.limits.specs.declared.TheConstants.{MOST_VOLUME}
 use Rattle.plant_model.specs.declared.parts.Parts.{Parts}
 use Rattle.plant_model.specs.declared.details.Op.{Op}
 use Rattle.plant_model.specs.Parts.{op_count_of, op_of, ops_of, no_op, horizon_of, greatest_volume_of}

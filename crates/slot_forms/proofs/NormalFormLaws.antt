@@ -1,14 +1,13 @@
 -- Each plan of a case has a normal form: what has begun stays, and the rest takes its normal order behind it.
-use Rattle.std.proofs.Common.{◌≡◌, inl, inr, ℕ, zero, suc, ◌+◌, ◌-◌, ◌^◌, ◌<◌, ◌≤◌, Bool, true, false, ltb, leb, cond, IsTrue, List, [], ◌∷◌, ◌++◌, All, map, length, replicate, take, drop, get_or, Option, Some, None, refl, sym, ap, subst, ◌∙◌, append_assoc, arith}
+use Rattle.std.proofs.Common.{◌≡◌, inl, inr, ℕ, ◌+◌, ◌-◌, ◌^◌, ◌<◌, ◌≤◌, true, leb, List, [], ◌∷◌, ◌++◌, All, map, length, take, drop, get_or, Option, Some, None, refl, sym, ap, subst, ◌∙◌, arith}
 use Rattle.std.specs.Prelude.{nat_lt, nat_le}
 use Rattle.std.specs.List.{list_all, filter}
 use Rattle.std.specs.List.Sorted.{IsPermutation}
 use Rattle.std.proofs.lemmas.Bool.{cases_lt, lt-ltb, le-ltb, le-leb, and_from}
-use Rattle.std.proofs.lemmas.List.{append-nil, length-append, take_at, drop_at, map-append}
+use Rattle.std.proofs.lemmas.List.{append-nil, length-append, take_at, drop_at}
 use Rattle.std.proofs.lemmas.List.Elements.{All-head, All-tail, All-nil, All-cons}
 use Rattle.std.proofs.lemmas.List.Sorted.{All-permutation, length_permutation}
 use Rattle.std.proofs.lemmas.Nat.Bits.{bit_at-pow_same}
-use Rattle.item_lists.proofs.FaultLaws.{nil_of_append}
 use Rattle.limits.specs.declared.TheConstants.{MOST_OPERATIONS}
 use Rattle.plant_model.specs.declared.parts.Parts.{Parts}
 use Rattle.plant_model.specs.Parts.{op_count_of, greatest_volume_of, horizon_of}
@@ -16,7 +15,7 @@ use Rattle.plant_model.specs.Sound.{SoundPlant}
 use Rattle.replay_core.specs.declared.timed.Timed.{Timed}
 use Rattle.replay_core.specs.declared.order.Order.TheVariants.{ByStart, BySlot}
 use Rattle.replay_core.specs.Rules.{last_start}
-use Rattle.replay_core.specs.Legal.{op_faults, step_faults_from, step_faults, IsLegal, IsLegalIn, CanRun, IsInRange, StepsAreInRange}
+use Rattle.replay_core.specs.Legal.{IsLegal, IsLegalIn, IsInRange, StepsAreInRange}
 use Rattle.replay_core.specs.Margin.{margin_of}
 use Rattle.replay_core.proofs.StepLaws.{CanRun-legal}
 use Rattle.slot_automaton.proofs.BitLemmas.{set_from_one}
@@ -24,15 +23,14 @@ use Rattle.slot_box.specs.declared.slot.Slot.{Slot}
 use Rattle.slot_box.specs.Boxes.{IsPoint, whole_slot}
 use Rattle.slot_box.specs.Entries.{Entry, idle, LiesIn}
 use Rattle.slot_box.specs.Laws.{RootSlotsMayIdle, RootSlotsMayRun}
-use Rattle.slot_words.specs.Swaps.{AreEquivalent, MeansTheSame}
 use Rattle.slot_words.specs.Laws.{PlansAreSlotLegal, SwapsKeepTheMeaning, SwapsKeepTheEntries}
 use Rattle.slot_words.proofs.SortLaws.{rising_plan, RisesFrom}
 use Rattle.slot_words.proofs.SortLaws.RisesFrom.{end, rises}
 use Rattle.normal_order.specs.NormalWords.{AreKnown, IsNormalWord, IsNormalForm}
 use Rattle.normal_order.specs.Laws.{WordsHaveNormalForms}
-use Rattle.slot_forms.specs.Cases.{Begun, Case, IsCasePlan, fixed_slot, whole_slots, root_box}
-use Rattle.slot_forms.specs.Forms.{word_of, is_form, entry_of, starts_late}
-use Rattle.slot_forms.specs.NormalForms.{BeginsWith, behind_begun, IsNormalFormOf, PlansHaveNormalForms}
+use Rattle.slot_forms.specs.Cases.{Begun, fixed_slot, whole_slots}
+use Rattle.slot_forms.specs.Forms.{word_of, is_form, entry_of}
+use Rattle.slot_forms.specs.NormalForms.{PlansHaveNormalForms}
 use Rattle.slot_forms.proofs.FormLaws.{form_of, word_of-steps, word_of-form_of, is_form-steps, is_form-form_of, form_point, runs_in_root}
 
 -- ---- what has begun comes first

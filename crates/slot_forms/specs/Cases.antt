@@ -1,6 +1,5 @@
 -- What a search and a dossier are about: a plant, how many operations its plans may have, and what has begun already.
-use Rattle.std.specs.Prelude.{◌≡◌, ◌↔◌, ℕ, ◌-◌, ◌^◌, ◌≤◌, ℤ, ◌≤ℤ◌, nat_le, nat_lt, Bool, true, List, ◌++◌, map, filter, drop, length, Option, Some, None}
-use Rattle.std.specs.List.{list_all}
+use Rattle.std.specs.Prelude.{◌≡◌, ◌↔◌, ℕ, ◌-◌, ◌^◌, ◌≤◌, ℤ, ◌≤ℤ◌, nat_lt, List, ◌++◌, map, filter, length, Option, Some, None}
 use Rattle.limits.specs.declared.TheConstants.{MOST_SLOTS}
 use Rattle.plant_model.specs.declared.parts.Parts.{Parts}
 use Rattle.plant_model.specs.Parts.{op_count_of, greatest_volume_of, horizon_of}

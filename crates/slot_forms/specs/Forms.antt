@@ -1,5 +1,5 @@
 -- Slot forms: the points of boxes that can be read as plans, operation by operation in the order of slots.
-use Rattle.std.specs.Prelude.{◌≡◌, ℕ, ◌≤◌, ℤ, nat_le, Bool, true, false, ◌&&◌, IsTrue, List, [], ◌∷◌, drop, length, Option, Some, None, if◌then◌else◌}
+use Rattle.std.specs.Prelude.{◌≡◌, ℤ, nat_le, Bool, true, false, ◌&&◌, IsTrue, List, [], ◌∷◌, drop, length, Option, Some, None, if◌then◌else◌}
 use Rattle.std.specs.List.{list_all}
 use Rattle.std.specs.Option.{is_none}
 use Rattle.replay_core.specs.declared.timed.Timed.{Timed}

@@ -1,7 +1,6 @@
 -- Of the slot forms of a plan the one that a search over slots keeps to: its word need not keep the clock, and behind
 -- what has begun no operation comes late that could have come before a greater one.
 use Rattle.std.specs.Prelude.{◌≡◌, IsTrue, List, take, drop, length, Option, Some, None}
-use Rattle.plant_model.specs.declared.parts.Parts.{Parts}
 use Rattle.replay_core.specs.declared.timed.Timed.{Timed}
 use Rattle.replay_core.specs.declared.order.Order.TheVariants.{BySlot}
 use Rattle.replay_core.specs.Legal.{IsLegalIn}
