@@ -6,7 +6,7 @@ use slot_box::{SlotBox, Task, Terms};
 use std::alloc::{AllocError, Global};
 use std::process::Abort;
 use std::test::Fail;
-use std::thread::join;
+use std::thread::{Threads, join};
 
 fn task(alloc: Global, id: u32) -> Result<Task, Fail> {
     let bx = SlotBox::root(alloc, 1, 1, 4, 2)?;
@@ -158,20 +158,56 @@ fn gathered_left(ids: &mut Vec<u32>, mut account: Account) -> Result<(), AllocEr
     Ok(())
 }
 
+/// Both passes, in their order.
+fn both(alloc: Global, first: DoorPass, second: DoorPass) -> Result<DoorPasses, Fail>
+    ensures { IfOk result (λ passes. passes ≡ first ∷ second ∷ []) }
+{
+    let mut passes = DoorPasses::new(alloc);
+    if passes.push(first).is_err() || passes.push(second).is_err() {
+        return Err(Fail::from("no memory"));
+    }
+    Ok(passes)
+}
+
+/// Two thieves at one door, each in a thread.
+fn prowl_both(
+    rt: &impl Threads,
+    alloc: Global,
+    door: &Door,
+    first: DoorPass,
+    second: DoorPass,
+) -> Result<((DoorPass, Vec<u32>), (DoorPass, Vec<u32>)), AllocError>
+    requires first { IsPassOfDeck (deck_behind door.now) first }
+    requires second { IsPassOfDeck (deck_behind door.now) second }
+    ensures first { IfOk result (λ prowled. IsPassOfDeck (deck_behind door.now) prowled.0.0) }
+    ensures second { IfOk result (λ prowled. IsPassOfDeck (deck_behind door.now) prowled.1.0) }
+    ensures first_number { IfOk result (λ prowled. (pass_view prowled.0.0).number ≡ (pass_view first).number) }
+    ensures second_number { IfOk result (λ prowled. (pass_view prowled.1.0).number ≡ (pass_view second).number) }
+{
+    let (one, other) = join(
+        rt,
+        || prowl(alloc, door, first),
+        || prowl(alloc, door, second),
+    );
+    Ok((one?, other?))
+}
+
 #[test]
 fn each_task_goes_to_the_owner_or_to_a_thief(rt: HostRuntime) -> Result<(), Fail> {
     let alloc = rt.alloc();
     let (mut owner, door) = deck(alloc)?;
-    let pass = owner.pass()?;
+    let first = owner.pass()?;
+    let second = owner.pass()?;
     let (served, prowled) = join(
         &rt,
         move || serve(alloc, owner),
-        || prowl(alloc, &door, pass),
+        || prowl_both(&rt, alloc, &door, first, second),
     );
     let (owner, mut ids) = served?;
-    let (pass, stolen) = prowled?;
-    let account = account(alloc, owner, door, alone(alloc, pass)?)?;
-    gathered(&mut ids, &stolen)?;
+    let ((first, one), (second, other)) = prowled?;
+    let account = account(alloc, owner, door, both(alloc, first, second)?)?;
+    gathered(&mut ids, &one)?;
+    gathered(&mut ids, &other)?;
     gathered_left(&mut ids, account)?;
     are_all(&rt, ids)
 }
