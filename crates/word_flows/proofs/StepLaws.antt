@@ -48,7 +48,8 @@ pub runs_draw_volumes : (parts : Parts) → SoundPlant parts → RunsDrawVolumes
 runs_draw_volumes parts sound word k run within =
     drawn-volume parts (state_after parts (take k word)) (step_at word k) (soundly parts word k sound run within)
 
-limit-met : (parts : Parts) (t : Timed) (drawn : List ℕ) (property : ℕ) → meets_limit parts t.op t.volume drawn property ≡ true → MeetsLimit parts t drawn property
+limit-met : (parts : Parts) (t : Timed) (drawn : List ℕ) (property : ℕ) → meets_limit parts t.op t.volume drawn property ≡ true →
+    MeetsLimit parts t drawn property
 unfolding meets_limit
 limit-met parts t drawn property met =
     let limit = limit_of parts t.op property in

@@ -23,7 +23,7 @@ pub record EndsWell (parts : Parts) (word : List Timed) : Type 0 where
   pub minutes : (p : ℕ) → p < place_count_of parts → (place_of parts p).kind ≡ DistillationUnit
       → IsTrue (place_of parts p).continuous → minutes_of parts word p ≡ horizon_of parts
 
--- whatever the order that is asked for, a word that breaks no rule is a run, and ends so
+-- whatever the order that is asked for, a word that breaks no rule is a run and ends well
 abbrev pub LegalWordsEndWell : Parts → Type 0
 LegalWordsEndWell parts =
     (order : Order) (word : List Timed) → IsLegalIn parts order word → IsRun parts word × EndsWell parts word

@@ -1,12 +1,11 @@
-ghost use Rattle.std.specs.Prelude.{ℕ, List, sum};
-ghost use Rattle.replay_core.specs.declared.timed.Timed.{Timed};
-ghost use Rattle.word_flows.specs.Runs.{WordsThatCanRunAreRuns};
+ghost use Rattle.std.specs.Prelude.{ℕ, sum};
+ghost use Rattle.word_flows.specs.Runs.{CanRunAsRuns};
 ghost use Rattle.word_flows.specs.Flows.{IsAdditive, amount_of, RunsBalance, BeginsAsGiven};
 ghost use Rattle.word_flows.specs.Levels.{MinimumsAreKept, MaximumsAreKept};
 ghost use Rattle.word_flows.specs.Steps.{RunsAreInRange, RunsMeetRates, RunsDrawVolumes, RunsMeetLimits};
 ghost use Rattle.word_flows.specs.Pairs.{RunsWait, VesselsTakeTurns};
 ghost use Rattle.word_flows.specs.Ends.{LegalWordsEndWell};
-ghost use Rattle.word_flows.specs.Sums.{CountsAreSums};
+ghost use Rattle.word_flows.specs.Sums.{CountsAreSumsOfSteps, ChargesAreDrawn};
 ghost use Rattle.word_flows.specs.LastEnds.{LastEndsAreReached};
 
 use plant_model::Plant;
@@ -14,7 +13,7 @@ use plant_model::Plant;
 /// What is so of the runs of the plant, for whoever reasons about words slot by slot: a call does nothing and brings
 /// the laws.
 pub fn flow_laws(plant: &Plant)
-    ensures runs { WordsThatCanRunAreRuns plant.now }
+    ensures runs { CanRunAsRuns plant.now }
     ensures ends { LegalWordsEndWell plant.now }
     // what each place holds
     ensures totals { IsAdditive sum }
@@ -30,8 +29,9 @@ pub fn flow_laws(plant: &Plant)
     ensures limits { RunsMeetLimits plant.now }
     ensures waits { RunsWait plant.now }
     ensures turns { VesselsTakeTurns plant.now }
-    // what a word has charged and unloaded, whether it is a run or not
-    ensures counts { (word : List Timed) (p : ℕ) → CountsAreSums plant.now word p }
+    // what a word has charged and unloaded
+    ensures counts { CountsAreSumsOfSteps plant.now }
+    ensures charged { ChargesAreDrawn plant.now }
     ensures last_ends { LastEndsAreReached plant.now }
 {
     plant.sound();
