@@ -1,0 +1,62 @@
+-- What is so of the terms of pieces, and what they come to at the numbers of a form.
+use Rattle.std.specs.Prelude.{◌≡◌, ℕ, ◌-◌, ◌*◌, ◌^◌, ◌<◌, ◌≤◌, List, length, All, ℤ, unsigned_abs}
+use Rattle.limits.specs.declared.TheConstants.{MOST_VOLUME}
+use Rattle.number_laws.specs.Sums.{sum_below}
+use Rattle.linear_form.specs.Columns.{IsColumn}
+use Rattle.linear_form.specs.Points.{value_at}
+use Rattle.linear_form.specs.Rows.{HasEachOnce}
+use Rattle.plant_model.specs.declared.parts.Parts.{Parts}
+use Rattle.replay_core.specs.declared.order.Order.{Order}
+use Rattle.replay_core.specs.declared.timed.Timed.{Timed}
+use Rattle.replay_core.specs.Legal.{CanRun}
+use Rattle.replay_core.specs.Margin.{wait_of}
+use Rattle.row_forms.specs.declared.piece.Figure.{Figure}
+use Rattle.row_forms.specs.declared.piece.Piece.{Piece}
+use Rattle.row_forms.specs.declared.piece.Which.{Which}
+use Rattle.row_forms.specs.Columns.{extent_of}
+use Rattle.row_forms.specs.Numbers.{numbers_of}
+use Rattle.row_forms.specs.Pieces.{piece_of, wait_piece}
+use Rattle.row_forms.specs.Sizes.{AreFewAndSmall}
+use Rattle.row_forms.specs.Sums.{figure_at, piece_sum, sum_of_pieces}
+use Rattle.row_forms.specs.Terms.{terms_of}
+
+-- no column stands twice
+abbrev pub TermsAreOnce : Parts → Type 0
+TermsAreOnce parts = (n : ℕ) (pieces : List Piece) → HasEachOnce (terms_of parts n pieces)
+
+-- each term is of a column of these forms
+abbrev pub TermsAreOfColumns : Parts → Type 0
+TermsAreOfColumns parts =
+    (n : ℕ) (pieces : List Piece) → All (λ term. IsColumn (extent_of parts n) term.column) (terms_of parts n pieces)
+
+-- and small over every range that reaches no further than the greatest volume, as the horizon does not
+abbrev pub TermsAreSmall : Parts → Type 0
+TermsAreSmall parts =
+    (n : ℕ) (pieces : List Piece) → AreFewAndSmall pieces →
+    All (λ term. unsigned_abs term.factor * MOST_VOLUME < 2 ^ 60) (terms_of parts n pieces)
+
+-- the terms come to what the pieces come to, whatever order the word has kept
+abbrev pub TermsComeToPieces : Parts → Type 0
+TermsComeToPieces parts =
+    (order : Order) (word : List Timed) (n : ℕ) (pieces : List Piece) → CanRun parts order word →
+    value_at (terms_of parts n pieces) (numbers_of parts word) ≡ sum_of_pieces parts n word pieces
+
+-- ---- what some pieces come to
+
+-- a piece of one slot
+abbrev pub OneSlotIsItsFigure : Parts → Type 0
+OneSlotIsItsFigure parts =
+    (word : List Timed) (n slot : ℕ) (factor : ℤ) (which : Which) (figure : Figure) → 1 ≤ slot → slot ≤ n →
+    piece_sum parts n word (piece_of factor slot slot which figure) ≡ figure_at parts word which figure (slot - 1)
+
+-- a piece of the slots from 1 to one of them
+abbrev pub FirstSlotsAreTheirFigures : Parts → Type 0
+FirstSlotsAreTheirFigures parts =
+    (word : List Timed) (n slot : ℕ) (factor : ℤ) (which : Which) (figure : Figure) → slot ≤ n →
+    piece_sum parts n word (piece_of factor 1 slot which figure) ≡ sum_below slot (figure_at parts word which figure)
+
+-- the piece of a vessel
+abbrev pub WaitIsTheVessels : Parts → Type 0
+WaitIsTheVessels parts =
+    (word : List Timed) (n p : ℕ) (factor : ℤ) → p < length parts.vessels →
+    piece_sum parts n word (wait_piece factor p) ≡ wait_of parts word p
