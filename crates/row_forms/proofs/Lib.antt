@@ -5,4 +5,5 @@ mod FigureLaws
 mod ValueLaws
 mod OnceLaws
 mod TermLaws
+mod OfColumnLaws
 mod PieceLaws

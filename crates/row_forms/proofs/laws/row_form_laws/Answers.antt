@@ -1,5 +1,12 @@
+use Rattle.std.proofs.Common.{◌≤◌, arith}
+use Rattle.plant_model.specs.Parts.{op_count_of}
+use Rattle.row_forms.specs.Columns.{extent_of, columns_of}
+use Rattle.row_forms.specs.Pieces.{factor_at}
+use Rattle.row_forms.proofs.OfColumnLaws.{terms_are_of_columns}
+use Rattle.row_forms.proofs.OnceLaws.{columns-apart, terms-once}
 use Rattle.row_forms.proofs.PieceLaws.{one_slot_is_its_figure, first_slots_are_their_figures, wait_is_the_vessels}
 use Rattle.row_forms.proofs.RunLaws.{fits-run}
+use Rattle.row_forms.proofs.TermLaws.{terms_are_small}
 use Rattle.row_forms.proofs.ValueLaws.{value-at_form}
 use Rattle.row_forms.proofs.laws.row_form_laws.Goals as goal
 
@@ -15,3 +22,14 @@ returns-clause-first_slots c = first_slots_are_their_figures c.args.plant.now
 
 pub returns-clause-wait : goal.returns-clause-wait
 returns-clause-wait c = wait_is_the_vessels c.args.plant.now
+
+pub returns-clause-once : goal.returns-clause-once
+returns-clause-once c = λ n pieces.
+    let few : op_count_of c.args.plant.now ≤ 255 = (let most = c.sound.ensures.plant.ops in omega arith) in
+    terms-once (factor_at c.args.plant.now pieces) (columns_of (extent_of c.args.plant.now n)) (columns-apart (extent_of c.args.plant.now n) few)
+
+pub returns-clause-columns : goal.returns-clause-columns
+returns-clause-columns c = terms_are_of_columns c.args.plant.now
+
+pub returns-clause-small : goal.returns-clause-small
+returns-clause-small c = terms_are_small c.args.plant.now
