@@ -185,7 +185,7 @@ number-slot parts word k v part =
     rw (ne_eqb (k + 1) 0 some, back) refl
 
 slot-sum : (parts : Parts) (n : ℕ) (word : List Timed) (piece : Piece) (k : ℕ) → Fits parts word →
-    sum_by (taken_of parts word piece) (slot_columns (extent_of parts n) (k + 1)) ≡ when (is_slot piece (k + 1)) (figure_at parts word piece.which piece.figure k)
+    sum_by (taken_of parts word piece) (slot_columns (op_count_of parts) (crude_count_of parts) (k + 1)) ≡ when (is_slot piece (k + 1)) (figure_at parts word piece.which piece.figure k)
 slot-sum parts n word piece k fits =
     let ops = op_count_of parts in
     let crudes = crude_count_of parts in
@@ -208,7 +208,7 @@ pub columns-sum : (parts : Parts) (n : ℕ) (word : List Timed) (piece : Piece) 
 columns-sum parts n word piece fits =
     let extent = extent_of parts n in
     let g = taken_of parts word piece in
-    let slots = λ (k : ℕ). slot_columns extent (k + 1) in
+    let slots = λ (k : ℕ). slot_columns extent.ops extent.crudes (k + 1) in
     let vessels = joined_below (length parts.vessels) (λ p. vessel_column p ∷ []) in
     let parted = sum_by-append g (joined_below n slots) vessels in
     let first = sum_by-joined_below g n slots in

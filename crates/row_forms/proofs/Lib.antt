@@ -7,3 +7,4 @@ mod OnceLaws
 mod TermLaws
 mod OfColumnLaws
 mod PieceLaws
+mod BuildLaws

@@ -13,19 +13,19 @@ use Rattle.row_forms.proofs.JoinedLaws.{All-joined_below}
 use Rattle.row_forms.proofs.OnceLaws.{all_operation, all_slot}
 use Rattle.row_forms.proofs.TermLaws.{all-terms}
 
-slot-there : (extent : Extent) (k : ℕ) → k < extent.slots → All (IsColumn extent) (slot_columns extent (k + 1))
+slot-there : (extent : Extent) (k : ℕ) → k < extent.slots → All (IsColumn extent) (slot_columns extent.ops extent.crudes (k + 1))
 slot-there extent k under =
     let one : 1 ≤ k + 1 = omega arith in
     let most : k + 1 ≤ extent.slots = omega arith in
-    all_slot (IsColumn extent) extent (k + 1) (record { slot_there = (one, most); part_there = inr refl })
+    all_slot (IsColumn extent) extent.ops extent.crudes (k + 1) (record { slot_there = (one, most); part_there = inr refl })
     (λ v known. all_operation (IsColumn extent) extent.crudes (k + 1) v
     (record { slot_there = (one, most); part_there = inl known }) (record { slot_there = (one, most); part_there = known })
     (record { slot_there = (one, most); part_there = known }) (λ c within. record { slot_there = (one, most); part_there = (known, within) }))
 
 columns-there : (extent : Extent) → All (IsColumn extent) (columns_of extent)
 columns-there extent =
-    All-append (IsColumn extent) (joined_below extent.slots (λ k. slot_columns extent (k + 1))) (joined_below extent.vessels (λ p. vessel_column p ∷ []))
-    (All-joined_below (IsColumn extent) extent.slots (λ k. slot_columns extent (k + 1)) (slot-there extent))
+    All-append (IsColumn extent) (joined_below extent.slots (λ k. slot_columns extent.ops extent.crudes (k + 1))) (joined_below extent.vessels (λ p. vessel_column p ∷ []))
+    (All-joined_below (IsColumn extent) extent.slots (λ k. slot_columns extent.ops extent.crudes (k + 1)) (slot-there extent))
     (All-joined_below (IsColumn extent) extent.vessels (λ p. vessel_column p ∷ [])
     (λ p under. All-cons (IsColumn extent) (vessel_column p) [] (record { slot_there = refl; part_there = under }) (All-nil (IsColumn extent))))
 

@@ -79,7 +79,7 @@ part_key column = part_number column.part
 abbrev entry_key : Column → ℕ
 entry_key column = column.entry
 
-abbrev slot_key : Column → ℕ
+abbrev pub slot_key : Column → ℕ
 slot_key column = column.slot
 
 -- what holds of each part of an operation holds of all
@@ -114,30 +114,29 @@ operations-apart ops crudes slot =
       same = all_operation (λ (x : Column). entry_key x ≡ 0 + v) crudes slot v (omega arith) (omega arith) (omega arith) (λ c within. omega arith);
     })
 
-slot-apart : (extent : Extent) (slot : ℕ) → extent.ops ≤ IDLE_ENTRY → AreApart (slot_columns extent slot)
-slot-apart extent slot few =
-    let operations = joined_below extent.ops (operation_columns extent.crudes slot) in
-    let apart = operations-apart extent.ops extent.crudes slot in
+slot-apart : (ops crudes slot : ℕ) → ops ≤ IDLE_ENTRY → AreApart (slot_columns ops crudes slot)
+slot-apart ops crudes slot few =
+    let operations = joined_below ops (operation_columns crudes slot) in
+    let apart = operations-apart ops crudes slot in
     apart_cons entry_key (idle_column slot) operations (λ k d there same. (let below = apart.below k d there in omega arith)) apart.apart
 
 -- what holds of idle and of each part of each operation holds of the slot
-pub all_slot : (P : Column → Type 0) (extent : Extent) (slot : ℕ) → P (idle_column slot) →
-    ((v : ℕ) → v < extent.ops → All P (operation_columns extent.crudes slot v)) → All P (slot_columns extent slot)
-all_slot P extent slot idle each =
-    All-cons P (idle_column slot) (joined_below extent.ops (operation_columns extent.crudes slot)) idle
-    (All-joined_below P extent.ops (operation_columns extent.crudes slot) each)
+pub all_slot : (P : Column → Type 0) (ops crudes slot : ℕ) → P (idle_column slot) →
+    ((v : ℕ) → v < ops → All P (operation_columns crudes slot v)) → All P (slot_columns ops crudes slot)
+all_slot P ops crudes slot idle each =
+    All-cons P (idle_column slot) (joined_below ops (operation_columns crudes slot)) idle (All-joined_below P ops (operation_columns crudes slot) each)
 
-slot-level : (extent : Extent) (slot : ℕ) → All (λ x. slot_key x ≡ slot) (slot_columns extent slot)
-slot-level extent slot =
-    all_slot (λ (x : Column). slot_key x ≡ slot) extent slot refl
-    (λ v under. all_operation (λ (x : Column). slot_key x ≡ slot) extent.crudes slot v refl refl refl (λ c within. refl))
+pub slot-level : (ops crudes slot : ℕ) → All (λ x. slot_key x ≡ slot) (slot_columns ops crudes slot)
+slot-level ops crudes slot =
+    all_slot (λ (x : Column). slot_key x ≡ slot) ops crudes slot refl
+    (λ v under. all_operation (λ (x : Column). slot_key x ≡ slot) crudes slot v refl refl refl (λ c within. refl))
 
 slots-apart : (extent : Extent) → extent.ops ≤ IDLE_ENTRY →
-    AreBetween slot_key 1 (1 + extent.slots) (joined_below extent.slots (λ k. slot_columns extent (k + 1)))
+    AreBetween slot_key 1 (1 + extent.slots) (joined_below extent.slots (λ k. slot_columns extent.ops extent.crudes (k + 1)))
 slots-apart extent few =
-    joined_apart slot_key 1 extent.slots (λ k. slot_columns extent (k + 1)) (λ k under. record {
-      apart = slot-apart extent (k + 1) few;
-      same = (λ i d there. (let same = slot-level extent (k + 1) i d there in omega arith));
+    joined_apart slot_key 1 extent.slots (λ k. slot_columns extent.ops extent.crudes (k + 1)) (λ k under. record {
+      apart = slot-apart extent.ops extent.crudes (k + 1) few;
+      same = (λ i d there. (let same = slot-level extent.ops extent.crudes (k + 1) i d there in omega arith));
     })
 
 vessels-apart : (vessels : ℕ) → AreBetween entry_key 0 (0 + vessels) (joined_below vessels (λ p. vessel_column p ∷ []))
@@ -152,7 +151,7 @@ pub columns-apart : (extent : Extent) → extent.ops ≤ IDLE_ENTRY → AreApart
 columns-apart extent few =
     let slots = slots-apart extent few in
     apart_append (λ (x : Column). 1 ≤ slot_key x) (λ (y : Column). slot_key y ≡ 0) (λ x y some none equal. (let keys = ap slot_key equal in omega arith))
-    (joined_below extent.slots (λ k. slot_columns extent (k + 1))) (joined_below extent.vessels (λ p. vessel_column p ∷ []))
+    (joined_below extent.slots (λ k. slot_columns extent.ops extent.crudes (k + 1))) (joined_below extent.vessels (λ p. vessel_column p ∷ []))
     slots.apart (vessels-apart extent.vessels).apart slots.above (vessels-level extent.vessels)
 
 -- ---- the terms

@@ -31,14 +31,13 @@ operation_columns crudes slot v =
     column_of slot v Z ∷ column_of slot v S ∷ column_of slot v E ∷ joined_below crudes (λ c. column_of slot v (A c) ∷ [])
 
 -- the columns of a slot
-abbrev pub slot_columns : Extent → ℕ → List Column
-slot_columns extent slot =
-    idle_column slot ∷ joined_below extent.ops (λ v. operation_columns extent.crudes slot v)
+abbrev pub slot_columns : ℕ → ℕ → ℕ → List Column
+slot_columns ops crudes slot = idle_column slot ∷ joined_below ops (operation_columns crudes slot)
 
 -- all columns
 abbrev pub columns_of : Extent → List Column
 columns_of extent =
-    joined_below extent.slots (λ k. slot_columns extent (k + 1))
+    joined_below extent.slots (λ k. slot_columns extent.ops extent.crudes (k + 1))
     ++ joined_below extent.vessels (λ p. vessel_column p ∷ [])
 
 -- the extent of the plant's forms of n slots

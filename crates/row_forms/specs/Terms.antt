@@ -20,9 +20,13 @@ term_of factor column =
 abbrev pub terms_over : (Column → ℤ) → List Column → List RowTerm
 terms_over factor columns = flat_map (term_of factor) columns
 
+-- those of pieces
+abbrev pub piece_terms : Parts → List Piece → List Column → List RowTerm
+piece_terms parts pieces columns = terms_over (factor_at parts pieces) columns
+
 -- the terms of the pieces over the forms of n slots
 abbrev pub terms_of : Parts → ℕ → List Piece → List RowTerm
-terms_of parts n pieces = terms_over (factor_at parts pieces) (columns_of (extent_of parts n))
+terms_of parts n pieces = piece_terms parts pieces (columns_of (extent_of parts n))
 
 -- the row that says of forms of n slots that the pieces are at most the right side
 abbrev pub row_of : Parts → ℕ → Inequality → RowForm

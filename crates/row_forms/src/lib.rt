@@ -10,8 +10,13 @@
 //! Begin with `piece`, then `specs/Pieces` and `specs/Numbers`; `specs/Laws` has what rows are reasoned with.
 #![tactic(auto)]
 
+mod factors;
 mod laws;
 mod piece;
+mod rows;
+mod terms;
 
 pub use laws::row_form_laws;
 pub use piece::{Figure, Inequality, MOST_PIECES, Piece, Which};
+pub use rows::build_row;
+pub use terms::build_terms;

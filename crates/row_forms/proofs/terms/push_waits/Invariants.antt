@@ -1,0 +1,9 @@
+use Rattle.std.proofs.Common.{◌≡◌, ◌+◌, [], ◌∷◌, ◌++◌, length}
+use Rattle.linear_form.specs.declared.column.Part.TheVariants.{A}
+use Rattle.plant_model.specs.Parts.{op_count_of, crude_count_of}
+use Rattle.row_forms.specs.Columns.{joined_below, column_of, vessel_column, operation_columns, slot_columns}
+use Rattle.row_forms.specs.Terms.{piece_terms}
+use Rattle.row_forms.proofs.terms.push_waits.Given as goal
+
+abbrev pub invariant-loop-p : goal.invariant-loop-p
+invariant-loop-p l = l.terms.items ≡ l.initial.terms.items ++ piece_terms l.plant l.pieces (joined_below l.p (λ p. vessel_column p ∷ []))
