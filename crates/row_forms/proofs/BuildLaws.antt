@@ -1,21 +1,21 @@
 -- Terms that are built list by list, and slots and entries that have none.
-use Rattle.std.proofs.Common.{◌≡◌, ℕ, zero, suc, ◌+◌, ◌<◌, ◌≤◌, Bool, true, false, List, [], ◌∷◌, ◌++◌, All, ℤ, pos, ◌+ℤ◌, ap, sym, ◌∙◌, refl, arith}
-use Rattle.std.specs.Prelude.{◌&&◌, ◌||◌}
+use Rattle.std.proofs.Common.{◌≡◌, ℕ, ◌+◌, Bool, false, List, [], ◌∷◌, ◌++◌, All, ℤ, pos, ap, sym, ◌∙◌, refl, arith}
+use Rattle.std.specs.Prelude.{◌&&◌}
 use Rattle.std.specs.List.{list_any}
 use Rattle.std.proofs.lemmas.Bool.{or_parts}
 use Rattle.std.proofs.lemmas.Grind.{flat_map-append}
 use Rattle.std.proofs.lemmas.Int.{ints}
-use Rattle.std.proofs.lemmas.List.{append_assoc, append-nil}
+use Rattle.std.proofs.lemmas.List.{append_assoc}
 use Rattle.std.proofs.lemmas.List.Elements.{All-head, All-tail}
 use Rattle.linear_form.specs.declared.column.Column.{Column}
 use Rattle.linear_form.specs.declared.row.RowTerm.{RowTerm}
 use Rattle.plant_model.specs.declared.parts.Parts.{Parts}
 use Rattle.row_forms.specs.declared.piece.Piece.{Piece}
-use Rattle.row_forms.specs.Columns.{joined_below, column_of, operation_columns, slot_columns}
+use Rattle.row_forms.specs.Columns.{joined_below, operation_columns, slot_columns}
 use Rattle.row_forms.specs.Pieces.{takes, is_slot, covers, factor_in, factor_at}
 use Rattle.row_forms.specs.Terms.{term_of, terms_over, piece_terms}
 use Rattle.row_forms.proofs.JoinedLaws.{joined_below-more}
-use Rattle.row_forms.proofs.OnceLaws.{all_operation, all_slot, slot-level}
+use Rattle.row_forms.proofs.OnceLaws.{all_operation, slot-level}
 
 -- one list more
 pub terms_append : (factor : Column → ℤ) (front back : List Column) (start items new : List RowTerm) → items ≡ start ++ terms_over factor front →

@@ -1,19 +1,17 @@
 -- What a piece takes of the columns of a slot, and of the vessels.
-use Rattle.std.proofs.Common.{◌≡◌, ℕ, zero, suc, ◌+◌, ◌-◌, ◌<◌, ◌≤◌, inl, inr, Bool, true, false, List, [], ◌∷◌, length, get_or, sum, ap, sym, ◌∙◌, refl, arith, if◌then◌else◌}
-use Rattle.std.specs.Prelude.{◌&&◌, ◌==◌, nat_lt}
+use Rattle.std.proofs.Common.{◌≡◌, ℕ, ◌+◌, ◌-◌, ◌<◌, ◌≤◌, inl, inr, Bool, true, false, List, [], ◌∷◌, length, get_or, ap, sym, ◌∙◌, refl, arith}
+use Rattle.std.specs.Prelude.{◌&&◌, nat_lt}
 use Rattle.std.specs.List.{sum_by}
 use Rattle.std.proofs.lemmas.Bool.{cases_lt, eq-eqb, ne_eqb, lt-ltb, le-ltb}
 use Rattle.std.proofs.lemmas.List.{get_or_past}
 use Rattle.std.proofs.lemmas.List.Sums.{sum_by-append, sum_by-cons}
 use Rattle.linear_form.specs.declared.column.Column.{Column}
 use Rattle.linear_form.specs.declared.column.Part.{Part}
-use Rattle.linear_form.specs.declared.column.Part.TheVariants.{Z, A, S, E, W}
-use Rattle.linear_form.specs.Columns.{Extent}
+use Rattle.linear_form.specs.declared.column.Part.TheVariants.{Z, A, S, E}
 use Rattle.number_laws.specs.Sums.{sum_below}
 use Rattle.plant_model.specs.declared.parts.Parts.{Parts}
 use Rattle.plant_model.specs.Parts.{op_count_of, crude_count_of}
 use Rattle.replay_core.specs.declared.timed.Timed.{Timed}
-use Rattle.replay_core.specs.Margin.{wait_of}
 use Rattle.row_forms.specs.declared.piece.Which.{Which}
 use Rattle.row_forms.specs.declared.piece.Figure.{Figure}
 use Rattle.row_forms.specs.declared.piece.Figure.TheVariants.{Choice, Volume, Amount, Start, End, Wait}
@@ -21,7 +19,7 @@ use Rattle.row_forms.specs.declared.piece.Piece.{Piece}
 use Rattle.row_forms.specs.Columns.{joined_below, column_of, idle_column, vessel_column, operation_columns, slot_columns, columns_of, extent_of}
 use Rattle.row_forms.specs.Numbers.{when, step_of, draw_in, part_of, entry_number, number_in}
 use Rattle.row_forms.specs.Pieces.{takes, is_of, is_slot, covers}
-use Rattle.row_forms.specs.Sums.{figure_of, figure_at, sum_of_slots, sum_of_waits, piece_sum}
+use Rattle.row_forms.specs.Sums.{figure_of, figure_at, piece_sum}
 use Rattle.row_forms.proofs.JoinedLaws.{sum_by-joined_below, sum_by-singles}
 use Rattle.row_forms.proofs.RunLaws.{Fits}
 use Rattle.row_forms.proofs.SumLaws.{when-zero, sum_below-same, sum_below-zeros, sum_below-single, sum_below-at, sum_below-list}
@@ -134,13 +132,13 @@ filled parts word which figure k s fits there =
     let idle : entry_number parts word k 255 Z ≡ 0 = rw (here, ne_eqb op 255 not_idle) refl in
     let first = ap (when (s && takes parts which 255 && is_of figure Z)) idle ∙ when-zero (s && takes parts which 255 && is_of figure Z) in
     let other = λ (v : ℕ) (under : v < ops) (apart : v ≡ op → ⊥).
-        let ne : op ≡ v → ⊥ = λ (same : op ≡ v). apart (sym same) in
-        entry_sum-none parts word figure k v (s && takes parts which v) (λ (part : Part). rw (here, ne_eqb op v ne) refl) in
+    let ne : op ≡ v → ⊥ = λ (same : op ≡ v). apart (sym same) in
+    entry_sum-none parts word figure k v (s && takes parts which v) (λ (part : Part). rw (here, ne_eqb op v ne) refl) in
     let single = sum_below-single ops op (λ v. entry_sum parts word figure k (s && takes parts which v) v) known other in
     let own = parts-same (crude_count_of parts) (λ part. when (s && takes parts which op && is_of figure part) (entry_number parts word k op part))
-        (λ part. when (s && takes parts which op && is_of figure part) (part_of parts word k part))
-        (λ (part : Part). let is : entry_number parts word k op part ≡ part_of parts word k part = rw (here, eq-eqb op op refl) refl in
-        ap (when (s && takes parts which op && is_of figure part)) is) in
+    (λ part. when (s && takes parts which op && is_of figure part) (part_of parts word k part))
+    (λ (part : Part). let is : entry_number parts word k op part ≡ part_of parts word k part = rw (here, eq-eqb op op refl) refl in
+    ap (when (s && takes parts which op && is_of figure part)) is) in
     let sum = figure-sum (crude_count_of parts) (part_of parts word k) figure (s && takes parts which op) in
     let figures = ap (when (s && takes parts which op)) (figure-of parts word k figure (fits.draws k there)) in
     let and = when-and s (takes parts which op) (figure_of parts word k figure) in
@@ -158,8 +156,8 @@ idle parts word which figure k s fits past =
     let first = ap (when (s && takes parts which 255 && is_of figure Z)) is_idle in
     let three = when-three s (takes parts which 255) (is_of figure Z) 1 in
     let zeros = sum_below-zeros (op_count_of parts) (λ v. entry_sum parts word figure k (s && takes parts which v) v) (λ v under.
-        let ne : v ≡ 255 → ⊥ = λ (same : v ≡ 255). omega arith in
-        entry_sum-none parts word figure k v (s && takes parts which v) (λ (part : Part). rw (here, ne_eqb v 255 ne) refl)) in
+    let ne : v ≡ 255 → ⊥ = λ (same : v ≡ 255). omega arith in
+    entry_sum-none parts word figure k v (s && takes parts which v) (λ (part : Part). rw (here, ne_eqb v 255 ne) refl)) in
     let is : figure_at parts word which figure k ≡ when (is_of figure Z && takes parts which 255) 1 = rw here refl in
     let right = ap (when s) is in
     omega arith
@@ -196,9 +194,9 @@ slot-sum parts n word piece k fits =
     let idle = ap (when (s && takes parts piece.which 255 && is_of piece.figure Z)) (number-slot parts word k 255 Z) in
     let rest = sum_by-joined_below g ops columns in
     let each = sum_below-same ops (λ v. sum_by g (columns v)) (λ v. entry_sum parts word piece.figure k (s && takes parts piece.which v) v)
-        (λ v under. operation-sum g crudes (k + 1) v
-        ∙ parts-same crudes (λ part. g (column_of (k + 1) v part)) (λ part. when (s && takes parts piece.which v && is_of piece.figure part) (entry_number parts word k v part))
-        (λ (part : Part). ap (when (s && takes parts piece.which v && is_of piece.figure part)) (number-slot parts word k v part))) in
+    (λ v under. operation-sum g crudes (k + 1) v
+    ∙ parts-same crudes (λ part. g (column_of (k + 1) v part)) (λ part. when (s && takes parts piece.which v && is_of piece.figure part) (entry_number parts word k v part))
+    (λ (part : Part). ap (when (s && takes parts piece.which v && is_of piece.figure part)) (number-slot parts word k v part))) in
     let whole = slot-whole parts word piece.which piece.figure k s fits in
     omega arith
 
@@ -213,6 +211,6 @@ columns-sum parts n word piece fits =
     let parted = sum_by-append g (joined_below n slots) vessels in
     let first = sum_by-joined_below g n slots in
     let each = sum_below-same n (λ k. sum_by g (slots k)) (λ k. when (is_slot piece (k + 1)) (figure_at parts word piece.which piece.figure k))
-        (λ k under. slot-sum parts n word piece k fits) in
+    (λ k under. slot-sum parts n word piece k fits) in
     let waits = sum_by-singles g (length parts.vessels) vessel_column in
     omega arith

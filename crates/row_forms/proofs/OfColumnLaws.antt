@@ -1,12 +1,10 @@
 -- The columns are those of the extent.
-use Rattle.std.proofs.Common.{◌≡◌, ℕ, ◌+◌, ◌<◌, ◌≤◌, inl, inr, List, [], ◌∷◌, ◌++◌, All, ℤ, refl, arith}
+use Rattle.std.proofs.Common.{ℕ, ◌+◌, ◌<◌, ◌≤◌, inl, inr, [], ◌∷◌, All, refl, arith}
 use Rattle.std.proofs.lemmas.List.Elements.{All-nil, All-cons, All-append}
-use Rattle.linear_form.specs.declared.column.Column.{Column}
-use Rattle.linear_form.specs.declared.column.Part.TheVariants.{Z, A, S, E, W}
 use Rattle.linear_form.specs.declared.row.RowTerm.{RowTerm}
 use Rattle.linear_form.specs.Columns.{Extent, IsColumn}
 use Rattle.plant_model.specs.declared.parts.Parts.{Parts}
-use Rattle.row_forms.specs.Columns.{joined_below, column_of, idle_column, vessel_column, operation_columns, slot_columns, columns_of, extent_of}
+use Rattle.row_forms.specs.Columns.{joined_below, vessel_column, slot_columns, columns_of, extent_of}
 use Rattle.row_forms.specs.Laws.{TermsAreOfColumns}
 use Rattle.row_forms.specs.Pieces.{factor_at}
 use Rattle.row_forms.proofs.JoinedLaws.{All-joined_below}

@@ -1,16 +1,16 @@
 -- No column stands twice among the columns, nor among the terms.
-use Rattle.std.proofs.Common.{◌≡◌, ◌≢◌, ℕ, zero, suc, ◌+◌, ◌<◌, ◌≤◌, inl, inr, List, [], ◌∷◌, ◌++◌, All, ℤ, pos, ap, sym, ◌∙◌, refl, arith}
+use Rattle.std.proofs.Common.{◌≡◌, ◌≢◌, ℕ, zero, suc, ◌+◌, ◌<◌, ◌≤◌, inl, inr, List, [], ◌∷◌, ◌++◌, All, ℤ, pos, ap, refl, arith}
 use Rattle.std.specs.Ordering.{int_eq}
 use Rattle.std.proofs.lemmas.Bool.{cases_Bool}
 use Rattle.std.proofs.lemmas.List.Elements.{All-head, All-tail, All-nil, All-cons, All-append}
 use Rattle.linear_form.specs.declared.column.TheConstants.{IDLE_ENTRY}
 use Rattle.linear_form.specs.declared.column.Column.{Column}
-use Rattle.linear_form.specs.declared.column.Part.TheVariants.{Z, A, S, E, W}
+use Rattle.linear_form.specs.declared.column.Part.TheVariants.{Z, A, S, E}
 use Rattle.linear_form.specs.declared.row.RowTerm.{RowTerm}
 use Rattle.linear_form.specs.Columns.{Extent, part_number}
 use Rattle.linear_form.specs.Rows.{HasEachOnce}
 use Rattle.row_forms.specs.Columns.{joined_below, column_of, idle_column, vessel_column, operation_columns, slot_columns, columns_of}
-use Rattle.row_forms.specs.Terms.{term_of, terms_over}
+use Rattle.row_forms.specs.Terms.{terms_over}
 use Rattle.row_forms.proofs.JoinedLaws.{All-joined_below}
 use Rattle.row_forms.proofs.TermLaws.{all-terms}
 
@@ -25,9 +25,10 @@ AreApart (column ∷ columns) = All (λ other. other ≢ column) columns × AreA
 apart_append : (P Q : Column → Type 0) → ((x y : Column) → P x → Q y → y ≢ x) → (xs ys : List Column) → AreApart xs → AreApart ys → All P xs → All Q ys →
     AreApart (xs ++ ys)
 apart_append P Q differ [] ys first second ps qs = second
-apart_append P Q differ (x ∷ xs) ys first second ps qs =
-    (All-append (λ (other : Column). other ≢ x) xs ys first.0 (λ k d there. differ x _ (All-head P x xs ps) (qs k d there)),
-    apart_append P Q differ xs ys first.1 second (All-tail P x xs ps) qs)
+apart_append P Q differ (x ∷ xs) ys first second ps qs = (
+  All-append (λ (other : Column). other ≢ x) xs ys first.0 (λ k d there. differ x _ (All-head P x xs ps) (qs k d there)),
+  apart_append P Q differ xs ys first.1 second (All-tail P x xs ps) qs,
+)
 
 -- a column with a key of its own
 apart_cons : (key : Column → ℕ) (x : Column) (xs : List Column) → All (λ y. key y ≢ key x) xs → AreApart xs → AreApart (x ∷ xs)
@@ -98,10 +99,10 @@ operation-apart crudes slot v =
     let joined = joined_apart part_key 3 crudes (λ c. column_of slot v (A c) ∷ []) (λ c under. single_level part_key (3 + c) (column_of slot v (A c)) refl) in
     let past_end : All (λ (y : Column). 2 < part_key y) amounts = λ k d there. (let above = joined.above k d there in omega arith) in
     let past_start : All (λ (y : Column). 1 < part_key y) (column_of slot v E ∷ amounts) =
-        All-cons (λ (y : Column). 1 < part_key y) (column_of slot v E) amounts (omega arith) (λ k d there. (let above = past_end k d there in omega arith)) in
+    All-cons (λ (y : Column). 1 < part_key y) (column_of slot v E) amounts (omega arith) (λ k d there. (let above = past_end k d there in omega arith)) in
     let past_choice : All (λ (y : Column). 0 < part_key y) (column_of slot v S ∷ column_of slot v E ∷ amounts) =
-        All-cons (λ (y : Column). 0 < part_key y) (column_of slot v S) (column_of slot v E ∷ amounts) (omega arith)
-        (λ k d there. (let above = past_start k d there in omega arith)) in
+    All-cons (λ (y : Column). 0 < part_key y) (column_of slot v S) (column_of slot v E ∷ amounts) (omega arith)
+    (λ k d there. (let above = past_start k d there in omega arith)) in
     apart_cons part_key (column_of slot v Z) (column_of slot v S ∷ column_of slot v E ∷ amounts)
     (λ k d there same. (let above = past_choice k d there in omega arith))
     (apart_cons part_key (column_of slot v S) (column_of slot v E ∷ amounts) (λ k d there same. (let above = past_start k d there in omega arith))

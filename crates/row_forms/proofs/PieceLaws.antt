@@ -1,6 +1,6 @@
 -- Pieces of one slot, of the first slots, and of a vessel.
-use Rattle.std.proofs.Common.{◌≡◌, ℕ, ◌+◌, ◌-◌, ◌<◌, ◌≤◌, inl, inr, Bool, true, false, List, length, ℤ, ap, sym, ◌∙◌, refl, arith}
-use Rattle.std.specs.Prelude.{◌&&◌, ◌==◌, nat_le}
+use Rattle.std.proofs.Common.{◌≡◌, ℕ, ◌+◌, ◌-◌, ◌<◌, ◌≤◌, inl, inr, true, false, List, length, ℤ, ◌∙◌, refl, arith}
+use Rattle.std.specs.Prelude.{◌&&◌, nat_le}
 use Rattle.std.proofs.lemmas.Bool.{cases_lt, cases_Bool, eq-eqb, ne_eqb, le-leb, lt-leb}
 use Rattle.number_laws.specs.Sums.{sum_below}
 use Rattle.plant_model.specs.declared.parts.Parts.{Parts}
@@ -14,8 +14,8 @@ use Rattle.row_forms.specs.declared.piece.Which.TheVariants.{One}
 use Rattle.row_forms.specs.Columns.{vessel_column}
 use Rattle.row_forms.specs.Laws.{OneSlotIsItsFigure, FirstSlotsAreTheirFigures, WaitIsTheVessels}
 use Rattle.row_forms.specs.Numbers.{when}
-use Rattle.row_forms.specs.Pieces.{covers, is_slot, piece_of, wait_piece}
-use Rattle.row_forms.specs.Sums.{figure_at, sum_of_slots, sum_of_waits, piece_sum}
+use Rattle.row_forms.specs.Pieces.{covers, piece_of, wait_piece}
+use Rattle.row_forms.specs.Sums.{figure_at, sum_of_slots, sum_of_waits}
 use Rattle.row_forms.proofs.SumLaws.{sum_below-same, sum_below-zeros, sum_below-cut, sum_below-single}
 
 inside : (a b x : ℕ) → a ≤ x → x ≤ b → (nat_le a x && nat_le x b) ≡ true
@@ -25,7 +25,7 @@ before : (a b x : ℕ) → x < a → (nat_le a x && nat_le x b) ≡ false
 before a b x less = rw (lt-leb a x less) refl
 
 after : (a b x : ℕ) → b < x → (nat_le a x && nat_le x b) ≡ false
-after a b x more = elim (cases_Bool (nat_le a x)) [ | inl is ↦ rw (is, lt-leb x b more) refl | inr not ↦ rw not refl ]
+after a b x more = elim (cases_Bool (nat_le a x)) [ inl is ↦ rw (is, lt-leb x b more) refl | inr not ↦ rw not refl ]
 
 -- a piece that begins past slot 0 takes nothing of the vessels
 no_waits : (parts : Parts) (word : List Timed) (piece : Piece) → 1 ≤ piece.first → sum_of_waits parts word piece ≡ 0

@@ -1,5 +1,5 @@
 -- What is asked of a word so that its form can be summed, and that a word that runs meets it.
-use Rattle.std.proofs.Common.{◌≡◌, ℕ, ◌+◌, ◌<◌, ◌≤◌, List, [], ◌∷◌, ◌++◌, length, take, drop, subst, sym, ◌∙◌, arith}
+use Rattle.std.proofs.Common.{◌≡◌, ℕ, ◌+◌, ◌<◌, ◌≤◌, List, [], length, take, drop, subst, sym, ◌∙◌}
 use Rattle.std.proofs.lemmas.List.{take_more, take-append-drop}
 use Rattle.limits.specs.declared.TheConstants.{MOST_OPERATIONS}
 use Rattle.plant_model.specs.declared.parts.Parts.{Parts}

@@ -1,20 +1,19 @@
 -- What holds of each term: its column is one of the extent's, and its factor is small.
-use Rattle.std.proofs.Common.{◌≡◌, ℕ, zero, suc, ◌+◌, ◌*◌, ◌^◌, ◌<◌, ◌≤◌, inl, inr, Bool, true, false, List, [], ◌∷◌, ◌++◌, length, All, ℤ, pos, if◌then◌else◌, unsigned_abs, refl, arith}
+use Rattle.std.proofs.Common.{◌*◌, ◌^◌, ◌<◌, ◌≤◌, inl, inr, Bool, true, false, List, [], ◌∷◌, length, All, ℤ, pos, if◌then◌else◌, unsigned_abs, arith}
 use Rattle.std.specs.Ordering.{int_eq}
 use Rattle.std.proofs.lemmas.Bool.{cases_Bool}
-use Rattle.std.proofs.lemmas.List.Elements.{All-head, All-tail, All-nil, All-cons, All-append}
+use Rattle.std.proofs.lemmas.List.Elements.{All-head, All-tail, All-nil, All-cons}
 use Rattle.limits.specs.declared.TheConstants.{MOST_VOLUME}
 use Rattle.linear_form.specs.declared.column.Column.{Column}
 use Rattle.linear_form.specs.declared.row.RowTerm.{RowTerm}
 use Rattle.number_laws.proofs.SignedSumLaws.{abs-sum}
 use Rattle.plant_model.specs.declared.parts.Parts.{Parts}
-use Rattle.row_forms.specs.declared.piece.TheConstants.{MOST_PIECES}
 use Rattle.row_forms.specs.declared.piece.Piece.{Piece}
 use Rattle.row_forms.specs.Columns.{columns_of, extent_of}
 use Rattle.row_forms.specs.Laws.{TermsAreSmall}
 use Rattle.row_forms.specs.Pieces.{covers, factor_in, factor_at}
-use Rattle.row_forms.specs.Sizes.{IsSmall, AreFewAndSmall}
-use Rattle.row_forms.specs.Terms.{term_of, terms_over, terms_of}
+use Rattle.row_forms.specs.Sizes.{IsSmall}
+use Rattle.row_forms.specs.Terms.{terms_over}
 
 -- what holds of each column with its factor holds of the terms
 pub all-terms : (P : RowTerm → Type 0) (factor : Column → ℤ) (columns : List Column) → All (λ column. P (record { column = column; factor = factor column })) columns →

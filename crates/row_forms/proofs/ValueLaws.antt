@@ -1,5 +1,5 @@
 -- What a row comes to at the numbers of a form: each piece by what it takes.
-use Rattle.std.proofs.Common.{◌≡◌, ℕ, ◌+◌, inl, inr, Bool, true, false, List, [], ◌∷◌, ◌++◌, ℤ, pos, ◌+ℤ◌, ◌*ℤ◌, if◌then◌else◌, ap, sym, ◌∙◌, refl, arith}
+use Rattle.std.proofs.Common.{◌≡◌, ℕ, ◌+◌, inl, inr, Bool, true, false, List, [], ◌∷◌, ℤ, pos, ◌+ℤ◌, ◌*ℤ◌, if◌then◌else◌, ap, sym, ◌∙◌, refl, arith}
 use Rattle.std.specs.List.{sum_by}
 use Rattle.std.specs.Ordering.{int_eq}
 use Rattle.std.proofs.Math.IntN.{zero-*ℤ, *ℤ_comm}
@@ -81,8 +81,8 @@ pieces-value parts word columns [] = total_by-zeros (numbers_of parts word) colu
 pieces-value parts word columns (piece ∷ pieces) =
     let y = numbers_of parts word in
     let split = total_by-same (λ column. factor_at parts (piece ∷ pieces) column *ℤ y column)
-        (λ column. (factor_in parts column piece *ℤ y column) +ℤ (factor_at parts pieces column *ℤ y column)) columns
-        (λ column. sum-product (factor_in parts column piece) (factor_at parts pieces column) (y column)) in
+    (λ column. (factor_in parts column piece *ℤ y column) +ℤ (factor_at parts pieces column *ℤ y column)) columns
+    (λ column. sum-product (factor_in parts column piece) (factor_at parts pieces column) (y column)) in
     let both = total_by-sum (λ column. factor_in parts column piece *ℤ y column) (λ column. factor_at parts pieces column *ℤ y column) columns in
     let first = piece-value parts word piece columns in
     let rest = pieces-value parts word columns pieces in

@@ -55,9 +55,7 @@ pub(crate) fn reach_slot(pieces: &[Piece], slot: u32) -> bool
 pub(crate) fn reach_entry(plant: &Plant, pieces: &[Piece], slot: u32, entry: u8) -> bool
     ensures { result ≡ list_any (λ piece. is_slot piece slot && takes plant.now piece.which entry) pieces.now }
 {
-    pieces
-        .iter()
-        .any(|piece| has_slot(piece, slot) && takes(plant, piece.which, entry))
+    pieces.iter().any(|piece| has_slot(piece, slot) && takes(plant, piece.which, entry))
 }
 
 /// The factor that the piece gives a column.

@@ -156,11 +156,7 @@ fn vessel_count(plant: &Plant) -> u8
 }
 
 /// Adds the terms of the vessels.
-fn push_waits(
-    plant: &Plant,
-    pieces: &[Piece],
-    terms: &mut Vec<RowTerm>,
-) -> Result<(), AllocError>
+fn push_waits(plant: &Plant, pieces: &[Piece], terms: &mut Vec<RowTerm>) -> Result<(), AllocError>
     requires { AreFewAndSmall pieces.now }
     ensures { OnOk result (terms.new.items ≡ terms.old.items
         ++ piece_terms plant.now pieces.now (joined_below (length plant.now.vessels) (λ p. vessel_column p ∷ []))) }

@@ -1,4 +1,4 @@
-use Rattle.std.proofs.Common.{◌≡◌, ◌+◌, ◌*◌, ◌≤◌, ◌<◌, ◌+ℤ◌, ℤ, pos, get_or, length, unsigned_abs, take, arith, rules, to_z, of_z, FitsSigned}
+use Rattle.std.proofs.Common.{◌≡◌, ◌≤◌, ◌<◌, ◌+ℤ◌, pos, get_or, length, unsigned_abs, arith, rules, to_z, FitsSigned}
 use Rattle.std.specs.Int.{w64}
 use Rattle.std.proofs.lemmas.Int.{ints, to_z-of_z}
 use Rattle.limits.specs.declared.TheConstants.{MOST_VOLUME}
@@ -6,7 +6,7 @@ use Rattle.number_laws.proofs.SignedSumLaws.{total_by-more, abs-sum}
 use Rattle.row_forms.specs.declared.piece.Which.TheVariants.{Any}
 use Rattle.row_forms.specs.declared.piece.Figure.TheVariants.{Choice}
 use Rattle.row_forms.specs.declared.piece.Piece.{Piece}
-use Rattle.row_forms.specs.Pieces.{piece_of, factor_in, factor_at}
+use Rattle.row_forms.specs.Pieces.{piece_of, factor_in}
 use Rattle.row_forms.proofs.TermLaws.{factor-small}
 use Rattle.row_forms.proofs.factors.factor_at.Goals as goal
 

@@ -17,7 +17,7 @@ returns-clause-once c =
     let slots = joined_below c.args.n (λ k. slot_columns (op_count_of parts) (crude_count_of parts) (k + 1)) in
     let vessels = joined_below (length parts.vessels) (λ p. vessel_column p ∷ []) in
     let whole = terms_append (factor_at parts c.args.pieces.now) slots vessels c.new-terms.result.items c.push_slots.new.terms.items
-        c.push_waits.new.terms.items c.in_ok-push_slots.ensures c.in_ok-push_waits.ensures in
+    c.push_waits.new.terms.items c.in_ok-push_slots.ensures c.in_ok-push_waits.ensures in
     let first = ap (λ (start : List RowTerm). start ++ terms_of parts c.args.n c.args.pieces.now) c.new-terms.ensures.items in
     let is : c.from_vec.result ≡ terms_of parts c.args.n c.args.pieces.now = c.from_vec.ensures ∙ (whole ∙ first) in
     subst HasEachOnce (sym is) once
