@@ -1,3 +1,5 @@
+ghost use Rattle.std.specs.Prelude.{◌≡◌};
+
 use item_lists::Items;
 
 /// The most pieces of a row: one for each crude and each vessel of a plant, and room besides.
@@ -48,6 +50,30 @@ pub struct Piece {
     pub last: u32,
     pub which: Which,
     pub figure: Figure,
+}
+
+impl Piece {
+    ghost use Rattle.row_forms.specs.Pieces.{piece_of, wait_piece};
+
+    /// A factor times one number of some entries, over slots `first` to `last`.
+    pub fn new(factor: i64, first: u32, last: u32, which: Which, figure: Figure) -> Piece
+        ensures { result ≡ piece_of factor first last which figure }
+    {
+        Piece {
+            factor,
+            first,
+            last,
+            which,
+            figure,
+        }
+    }
+
+    /// A factor times the minutes that a vessel waits.
+    pub fn wait(factor: i64, vessel: u8) -> Piece
+        ensures { result ≡ wait_piece factor vessel }
+    {
+        Piece::new(factor, 0, 0, Which::One(vessel), Figure::Wait)
+    }
 }
 
 /// Says that its pieces together are at most `right`.
