@@ -1,8 +1,8 @@
 -- What is so of the terms of pieces, and what they come to at the numbers of a form.
 use Rattle.std.specs.Prelude.{◌≡◌, ℕ, ◌-◌, ◌*◌, ◌^◌, ◌<◌, ◌≤◌, List, length, All, ℤ, unsigned_abs}
-use Rattle.limits.specs.declared.TheConstants.{MOST_VOLUME}
+use Rattle.limits.specs.declared.TheConstants.{MOST_COLUMNS, MOST_SLOTS, MOST_VOLUME}
 use Rattle.number_laws.specs.Sums.{sum_below}
-use Rattle.linear_form.specs.Columns.{IsColumn}
+use Rattle.linear_form.specs.Columns.{IsColumn, count_of}
 use Rattle.linear_form.specs.Points.{value_at}
 use Rattle.linear_form.specs.Rows.{HasEachOnce}
 use Rattle.plant_model.specs.declared.parts.Parts.{Parts}
@@ -20,6 +20,10 @@ use Rattle.row_forms.specs.Sizes.{AreFewAndSmall}
 use Rattle.row_forms.specs.Sums.{figure_at, piece_sum, sum_of_pieces}
 use Rattle.row_forms.specs.Terms.{terms_of}
 
+-- forms of a plant have no more columns than are asked for
+abbrev pub ColumnsAreFew : Parts → Type 0
+ColumnsAreFew parts = (n : ℕ) → n ≤ MOST_SLOTS → count_of (extent_of parts n) ≤ MOST_COLUMNS
+
 -- no column stands twice
 abbrev pub TermsAreOnce : Parts → Type 0
 TermsAreOnce parts = (n : ℕ) (pieces : List Piece) → HasEachOnce (terms_of parts n pieces)
@@ -29,7 +33,7 @@ abbrev pub TermsAreOfColumns : Parts → Type 0
 TermsAreOfColumns parts =
     (n : ℕ) (pieces : List Piece) → All (λ term. IsColumn (extent_of parts n) term.column) (terms_of parts n pieces)
 
--- and small over every range that reaches no further than the greatest volume, as the horizon does not
+-- and its factor is small over every range that reaches no further than the greatest volume, as the horizon does not
 abbrev pub TermsAreSmall : Parts → Type 0
 TermsAreSmall parts =
     (n : ℕ) (pieces : List Piece) → AreFewAndSmall pieces →

@@ -28,35 +28,12 @@ takes parts Charges entry = nat_lt entry (op_count_of parts) && is_charge (op_of
 -- whether a part belongs to the figure
 abbrev pub is_of : Figure → Part → Bool
 is_of Choice Z = true
-is_of Choice (A crude) = false
-is_of Choice S = false
-is_of Choice E = false
-is_of Choice W = false
-is_of Volume Z = false
 is_of Volume (A crude) = true
-is_of Volume S = false
-is_of Volume E = false
-is_of Volume W = false
-is_of (Amount c) Z = false
 is_of (Amount c) (A crude) = crude == c
-is_of (Amount c) S = false
-is_of (Amount c) E = false
-is_of (Amount c) W = false
-is_of Start Z = false
-is_of Start (A crude) = false
 is_of Start S = true
-is_of Start E = false
-is_of Start W = false
-is_of End Z = false
-is_of End (A crude) = false
-is_of End S = false
 is_of End E = true
-is_of End W = false
-is_of Wait Z = false
-is_of Wait (A crude) = false
-is_of Wait S = false
-is_of Wait E = false
 is_of Wait W = true
+is_of figure part = false
 
 -- whether the slot is one of the piece's
 abbrev pub is_slot : Piece → ℕ → Bool

@@ -1,10 +1,11 @@
-ghost use Rattle.row_forms.specs.Laws.{TermsAreOnce, TermsAreOfColumns, TermsAreSmall, TermsComeToPieces};
+ghost use Rattle.row_forms.specs.Laws.{ColumnsAreFew, TermsAreOnce, TermsAreOfColumns, TermsAreSmall, TermsComeToPieces};
 ghost use Rattle.row_forms.specs.Laws.{OneSlotIsItsFigure, FirstSlotsAreTheirFigures, WaitIsTheVessels};
 
 use plant_model::Plant;
 
 /// What is so of rows made of pieces, for whoever reasons about them: a call does nothing and brings the laws.
 pub fn row_form_laws(plant: &Plant)
+    ensures few { ColumnsAreFew plant.now }
     ensures once { TermsAreOnce plant.now }
     ensures columns { TermsAreOfColumns plant.now }
     ensures small { TermsAreSmall plant.now }

@@ -13,6 +13,12 @@ use linear_form::{Column, IDLE_ENTRY, Part, RowTerm, RowTerms};
 use plant_model::Plant;
 use std::alloc::{AllocError, Global};
 
+fn column_of(slot: u32, entry: u8, part: Part) -> Column
+    ensures { result ≡ column_of slot entry part }
+{
+    Column { slot, entry, part }
+}
+
 /// Adds the term of a column, where it has a factor.
 fn push_column(
     plant: &Plant,
@@ -44,12 +50,7 @@ fn push_amounts(
         ++ piece_terms plant.now pieces.now (joined_below (crude_count_of plant.now) (λ c. column_of slot v (A c) ∷ []))) }
 {
     for crude in 0..plant.crude_count() {
-        let column = Column {
-            slot,
-            entry: v,
-            part: Part::A(crude),
-        };
-        push_column(plant, pieces, column, terms)?;
+        push_column(plant, pieces, column_of(slot, v, Part::A(crude)), terms)?;
     }
     Ok(())
 }
@@ -69,24 +70,9 @@ fn push_operation(
     if !reach_entry(plant, pieces, slot, v) {
         return Ok(());
     }
-    let choice = Column {
-        slot,
-        entry: v,
-        part: Part::Z,
-    };
-    let start = Column {
-        slot,
-        entry: v,
-        part: Part::S,
-    };
-    let end = Column {
-        slot,
-        entry: v,
-        part: Part::E,
-    };
-    push_column(plant, pieces, choice, terms)?;
-    push_column(plant, pieces, start, terms)?;
-    push_column(plant, pieces, end, terms)?;
+    push_column(plant, pieces, column_of(slot, v, Part::Z), terms)?;
+    push_column(plant, pieces, column_of(slot, v, Part::S), terms)?;
+    push_column(plant, pieces, column_of(slot, v, Part::E), terms)?;
     push_amounts(plant, pieces, slot, v, terms)
 }
 
@@ -121,12 +107,7 @@ fn push_slot(
     if !reach_slot(pieces, slot) {
         return Ok(());
     }
-    let idle = Column {
-        slot,
-        entry: IDLE_ENTRY,
-        part: Part::Z,
-    };
-    push_column(plant, pieces, idle, terms)?;
+    push_column(plant, pieces, column_of(slot, IDLE_ENTRY, Part::Z), terms)?;
     push_operations(plant, pieces, slot, terms)
 }
 
@@ -162,12 +143,7 @@ fn push_waits(plant: &Plant, pieces: &[Piece], terms: &mut Vec<RowTerm>) -> Resu
         ++ piece_terms plant.now pieces.now (joined_below (length plant.now.vessels) (λ p. vessel_column p ∷ []))) }
 {
     for p in 0..vessel_count(plant) {
-        let column = Column {
-            slot: 0,
-            entry: p,
-            part: Part::W,
-        };
-        push_column(plant, pieces, column, terms)?;
+        push_column(plant, pieces, column_of(0, p, Part::W), terms)?;
     }
     Ok(())
 }

@@ -2,7 +2,7 @@ use Rattle.std.proofs.Common.{◌≤◌, arith}
 use Rattle.plant_model.specs.Parts.{op_count_of}
 use Rattle.row_forms.specs.Columns.{extent_of, columns_of}
 use Rattle.row_forms.specs.Pieces.{factor_at}
-use Rattle.row_forms.proofs.OfColumnLaws.{terms_are_of_columns}
+use Rattle.row_forms.proofs.OfColumnLaws.{columns_are_few, terms_are_of_columns}
 use Rattle.row_forms.proofs.OnceLaws.{columns-apart, terms-once}
 use Rattle.row_forms.proofs.PieceLaws.{one_slot_is_its_figure, first_slots_are_their_figures, wait_is_the_vessels}
 use Rattle.row_forms.proofs.RunLaws.{fits-run}
@@ -33,3 +33,6 @@ returns-clause-columns c = terms_are_of_columns c.args.plant.now
 
 pub returns-clause-small : goal.returns-clause-small
 returns-clause-small c = terms_are_small c.args.plant.now
+
+pub returns-clause-few : goal.returns-clause-few
+returns-clause-few c = columns_are_few c.args.plant.now c.sound.ensures.plant
