@@ -1,5 +1,5 @@
 -- What a row comes to at the numbers of a form: each piece by what it takes.
-use Rattle.std.proofs.Common.{◌≡◌, ℕ, ◌+◌, inl, inr, Bool, true, false, List, [], ◌∷◌, ℤ, pos, ◌+ℤ◌, ◌*ℤ◌, if◌then◌else◌, ap, sym, ◌∙◌, refl, arith}
+use Rattle.std.proofs.Common.{◌≡◌, ℕ, ◌+◌, inl, inr, Bool, true, false, List, [], ◌∷◌, ℤ, pos, ◌+ℤ◌, ◌*ℤ◌, ◌≤ℤ◌, subst, if◌then◌else◌, ap, sym, ◌∙◌, refl, arith}
 use Rattle.std.specs.List.{sum_by}
 use Rattle.std.specs.Ordering.{int_eq}
 use Rattle.std.proofs.Math.IntN.{zero-*ℤ, *ℤ_comm}
@@ -13,15 +13,17 @@ use Rattle.number_laws.specs.SignedSums.{total_by}
 use Rattle.number_laws.proofs.ProductLaws.{product-sum, sum-product}
 use Rattle.number_laws.proofs.SignedSumLaws.{total_by-append, total_by-same}
 use Rattle.plant_model.specs.declared.parts.Parts.{Parts}
+use Rattle.plant_model.specs.Sound.{SoundPlant}
 use Rattle.replay_core.specs.declared.timed.Timed.{Timed}
 use Rattle.row_forms.specs.declared.piece.Piece.{Piece}
 use Rattle.row_forms.specs.Columns.{columns_of, extent_of}
+use Rattle.row_forms.specs.Laws.{RowsHoldByPieces}
 use Rattle.row_forms.specs.Numbers.{when, number_in, numbers_of}
 use Rattle.row_forms.specs.Pieces.{covers, factor_in, factor_at}
 use Rattle.row_forms.specs.Sums.{piece_sum, sum_of_pieces}
 use Rattle.row_forms.specs.Terms.{term_of, terms_over, terms_of}
 use Rattle.row_forms.proofs.FigureLaws.{taken_of, columns-sum}
-use Rattle.row_forms.proofs.RunLaws.{Fits}
+use Rattle.row_forms.proofs.RunLaws.{Fits, fits-run}
 
 -- ---- terms
 
@@ -97,3 +99,8 @@ value-at_form parts n word pieces fits =
     ∙ (pieces-value parts word columns pieces
     ∙ total_by-same (λ piece. piece.factor *ℤ pos (sum_by (taken_of parts word piece) columns)) (λ piece. piece.factor *ℤ pos (piece_sum parts n word piece)) pieces
     (λ piece. ap (λ (s : ℕ). piece.factor *ℤ pos s) (columns-sum parts n word piece fits)))
+
+pub rows_hold_by_pieces : (parts : Parts) → SoundPlant parts → RowsHoldByPieces parts
+rows_hold_by_pieces parts sound order word n inequality runs =
+    let value = value-at_form parts n word inequality.pieces (fits-run parts order word sound runs) in
+    (λ met. subst (λ (z : ℤ). z ≤ℤ inequality.right) value met, λ small. subst (λ (z : ℤ). z ≤ℤ inequality.right) (sym value) small)

@@ -1,9 +1,9 @@
 -- What is so of the terms of pieces, and what they come to at the numbers of a form.
-use Rattle.std.specs.Prelude.{◌≡◌, ℕ, ◌-◌, ◌*◌, ◌^◌, ◌<◌, ◌≤◌, List, length, All, ℤ, unsigned_abs}
+use Rattle.std.specs.Prelude.{◌≡◌, ℕ, ◌-◌, ◌*◌, ◌^◌, ◌<◌, ◌≤◌, List, length, All, ℤ, ◌≤ℤ◌, unsigned_abs, ◌↔◌}
 use Rattle.limits.specs.declared.TheConstants.{MOST_COLUMNS, MOST_SLOTS, MOST_VOLUME}
 use Rattle.number_laws.specs.Sums.{sum_below}
 use Rattle.linear_form.specs.Columns.{IsColumn, count_of}
-use Rattle.linear_form.specs.Points.{value_at}
+use Rattle.linear_form.specs.Points.{value_at, IsMet}
 use Rattle.linear_form.specs.Rows.{HasEachOnce}
 use Rattle.plant_model.specs.declared.parts.Parts.{Parts}
 use Rattle.replay_core.specs.declared.order.Order.{Order}
@@ -11,6 +11,7 @@ use Rattle.replay_core.specs.declared.timed.Timed.{Timed}
 use Rattle.replay_core.specs.Legal.{CanRun}
 use Rattle.replay_core.specs.Margin.{wait_of}
 use Rattle.row_forms.specs.declared.piece.Figure.{Figure}
+use Rattle.row_forms.specs.declared.piece.Inequality.{Inequality}
 use Rattle.row_forms.specs.declared.piece.Piece.{Piece}
 use Rattle.row_forms.specs.declared.piece.Which.{Which}
 use Rattle.row_forms.specs.Columns.{extent_of}
@@ -18,7 +19,7 @@ use Rattle.row_forms.specs.Numbers.{numbers_of}
 use Rattle.row_forms.specs.Pieces.{piece_of, wait_piece}
 use Rattle.row_forms.specs.Sizes.{AreFewAndSmall}
 use Rattle.row_forms.specs.Sums.{figure_at, piece_sum, sum_of_pieces}
-use Rattle.row_forms.specs.Terms.{terms_of}
+use Rattle.row_forms.specs.Terms.{terms_of, row_of}
 
 -- forms of a plant have no more columns than are asked for
 abbrev pub ColumnsAreFew : Parts → Type 0
@@ -44,6 +45,13 @@ abbrev pub TermsComeToPieces : Parts → Type 0
 TermsComeToPieces parts =
     (order : Order) (word : List Timed) (n : ℕ) (pieces : List Piece) → CanRun parts order word →
     value_at (terms_of parts n pieces) (numbers_of parts word) ≡ sum_of_pieces parts n word pieces
+
+-- so a row holds at a form exactly where its pieces come to at most the right side
+abbrev pub RowsHoldByPieces : Parts → Type 0
+RowsHoldByPieces parts =
+    (order : Order) (word : List Timed) (n : ℕ) (inequality : Inequality) → CanRun parts order word →
+    IsMet (numbers_of parts word) (row_of parts n inequality)
+    ↔ (sum_of_pieces parts n word inequality.pieces ≤ℤ inequality.right)
 
 -- ---- what some pieces come to
 

@@ -1,4 +1,5 @@
-ghost use Rattle.row_forms.specs.Laws.{ColumnsAreFew, TermsAreOnce, TermsAreOfColumns, TermsAreSmall, TermsComeToPieces};
+ghost use Rattle.row_forms.specs.Laws.{ColumnsAreFew, TermsAreOnce, TermsAreOfColumns, TermsAreSmall};
+ghost use Rattle.row_forms.specs.Laws.{TermsComeToPieces, RowsHoldByPieces};
 ghost use Rattle.row_forms.specs.Laws.{OneSlotIsItsFigure, FirstSlotsAreTheirFigures, WaitIsTheVessels};
 
 use plant_model::Plant;
@@ -10,6 +11,7 @@ pub fn row_form_laws(plant: &Plant)
     ensures columns { TermsAreOfColumns plant.now }
     ensures small { TermsAreSmall plant.now }
     ensures value { TermsComeToPieces plant.now }
+    ensures rows { RowsHoldByPieces plant.now }
 
     ensures one_slot { OneSlotIsItsFigure plant.now }
     ensures first_slots { FirstSlotsAreTheirFigures plant.now }

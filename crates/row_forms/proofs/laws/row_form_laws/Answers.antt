@@ -7,7 +7,7 @@ use Rattle.row_forms.proofs.OnceLaws.{columns-apart, terms-once}
 use Rattle.row_forms.proofs.PieceLaws.{one_slot_is_its_figure, first_slots_are_their_figures, wait_is_the_vessels}
 use Rattle.row_forms.proofs.RunLaws.{fits-run}
 use Rattle.row_forms.proofs.TermLaws.{terms_are_small}
-use Rattle.row_forms.proofs.ValueLaws.{value-at_form}
+use Rattle.row_forms.proofs.ValueLaws.{value-at_form, rows_hold_by_pieces}
 use Rattle.row_forms.proofs.laws.row_form_laws.Goals as goal
 
 pub returns-clause-value : goal.returns-clause-value
@@ -36,3 +36,6 @@ returns-clause-small c = terms_are_small c.args.plant.now
 
 pub returns-clause-few : goal.returns-clause-few
 returns-clause-few c = columns_are_few c.args.plant.now c.sound.ensures.plant
+
+pub returns-clause-rows : goal.returns-clause-rows
+returns-clause-rows c = rows_hold_by_pieces c.args.plant.now c.sound.ensures.plant
