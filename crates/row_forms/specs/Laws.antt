@@ -1,6 +1,6 @@
 -- What is so of the terms of pieces, and what they come to at the numbers of a form.
 use Rattle.std.specs.Prelude.{◌≡◌, ℕ, ◌-◌, ◌*◌, ◌^◌, ◌<◌, ◌≤◌, List, length, All, ℤ, ◌≤ℤ◌, unsigned_abs, ◌↔◌}
-use Rattle.limits.specs.declared.TheConstants.{MOST_COLUMNS, MOST_SLOTS, MOST_VOLUME}
+use Rattle.limits.specs.declared.TheConstants.{MOST_COLUMNS, MOST_SLOTS}
 use Rattle.number_laws.specs.Sums.{sum_below}
 use Rattle.linear_form.specs.Columns.{IsColumn, count_of}
 use Rattle.linear_form.specs.Points.{value_at, IsMet}
@@ -17,7 +17,7 @@ use Rattle.row_forms.specs.declared.piece.Which.{Which}
 use Rattle.row_forms.specs.Columns.{extent_of}
 use Rattle.row_forms.specs.Numbers.{numbers_of}
 use Rattle.row_forms.specs.Pieces.{piece_of, wait_piece}
-use Rattle.row_forms.specs.Sizes.{AreFewAndSmall}
+use Rattle.row_forms.specs.Sizes.{part_reach, HasSmallReach, AreFewAndSmall}
 use Rattle.row_forms.specs.Sums.{figure_at, piece_sum, sum_of_pieces}
 use Rattle.row_forms.specs.Terms.{terms_of, row_of}
 
@@ -34,11 +34,15 @@ abbrev pub TermsAreOfColumns : Parts → Type 0
 TermsAreOfColumns parts =
     (n : ℕ) (pieces : List Piece) → All (λ term. IsColumn (extent_of parts n) term.column) (terms_of parts n pieces)
 
--- and its factor is small over every range that reaches no further than the greatest volume, as the horizon does not
+-- and its factor is small over all that the column's number may be
 abbrev pub TermsAreSmall : Parts → Type 0
 TermsAreSmall parts =
-    (n : ℕ) (pieces : List Piece) → AreFewAndSmall pieces →
-    All (λ term. unsigned_abs term.factor * MOST_VOLUME < 2 ^ 60) (terms_of parts n pieces)
+    (n : ℕ) (pieces : List Piece) → HasSmallReach pieces →
+    All (λ term. unsigned_abs term.factor * part_reach term.column.part < 2 ^ 60) (terms_of parts n pieces)
+
+-- few pieces with small factors reach little
+abbrev pub FewPiecesReachLittle : Type 0
+FewPiecesReachLittle = (pieces : List Piece) → AreFewAndSmall pieces → HasSmallReach pieces
 
 -- the terms come to what the pieces come to, whatever order the word has kept
 abbrev pub TermsComeToPieces : Parts → Type 0

@@ -1,7 +1,7 @@
 ghost use Rattle.std.specs.Prelude.{◌≡◌, ◌+◌, ◌<◌, ◌^◌, ◌+ℤ◌, ◌&&◌, unsigned_abs};
 ghost use Rattle.std.specs.List.{list_any};
 ghost use Rattle.row_forms.specs.Pieces.{takes, is_of, is_slot, factor_in, factor_at};
-ghost use Rattle.row_forms.specs.Sizes.{AreFewAndSmall};
+ghost use Rattle.row_forms.specs.Sizes.{HasSmallReach};
 
 use crate::{Figure, Piece, Which};
 use linear_form::{Column, IDLE_ENTRY, Part};
@@ -81,7 +81,7 @@ fn plus(sum: i64, more: i64) -> i64
 
 /// The factor that the pieces give a column together.
 pub(crate) fn factor_at(plant: &Plant, pieces: &[Piece], column: Column) -> i64
-    requires { AreFewAndSmall pieces.now }
+    requires { HasSmallReach pieces.now }
     ensures { result ≡ factor_at plant.now pieces.now column }
 {
     let mut factor = 0;

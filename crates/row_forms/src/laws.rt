@@ -1,4 +1,4 @@
-ghost use Rattle.row_forms.specs.Laws.{ColumnsAreFew, TermsAreOnce, TermsAreOfColumns, TermsAreSmall};
+ghost use Rattle.row_forms.specs.Laws.{ColumnsAreFew, TermsAreOnce, TermsAreOfColumns, TermsAreSmall, FewPiecesReachLittle};
 ghost use Rattle.row_forms.specs.Laws.{TermsComeToPieces, RowsHoldByPieces};
 ghost use Rattle.row_forms.specs.Laws.{OneSlotIsItsFigure, FirstSlotsAreTheirFigures, WaitIsTheVessels};
 
@@ -10,6 +10,7 @@ pub fn row_form_laws(plant: &Plant)
     ensures once { TermsAreOnce plant.now }
     ensures columns { TermsAreOfColumns plant.now }
     ensures small { TermsAreSmall plant.now }
+    ensures reach { FewPiecesReachLittle }
     ensures value { TermsComeToPieces plant.now }
     ensures rows { RowsHoldByPieces plant.now }
 

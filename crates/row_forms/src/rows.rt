@@ -1,5 +1,5 @@
 ghost use Rattle.std.specs.Prelude.{◌≡◌, IfOk};
-ghost use Rattle.row_forms.specs.Sizes.{AreFewAndSmall};
+ghost use Rattle.row_forms.specs.Sizes.{HasSmallReach};
 ghost use Rattle.row_forms.specs.Terms.{row_of};
 
 use crate::Inequality;
@@ -15,7 +15,7 @@ pub fn build_row(
     n: u32,
     inequality: &Inequality,
 ) -> Result<Row, AllocError>
-    requires { AreFewAndSmall inequality.now.pieces }
+    requires { HasSmallReach inequality.now.pieces }
     ensures { IfOk result (λ row. row ≡ row_of plant.now n inequality.now) }
 {
     let terms = build_terms(alloc, plant, n, inequality.pieces.as_slice())?;

@@ -3,7 +3,7 @@ ghost use Rattle.linear_form.specs.declared.column.Part.TheVariants.{A};
 ghost use Rattle.linear_form.specs.Rows.{HasEachOnce};
 ghost use Rattle.plant_model.specs.Parts.{op_count_of, crude_count_of};
 ghost use Rattle.row_forms.specs.Columns.{joined_below, column_of, vessel_column, operation_columns, slot_columns};
-ghost use Rattle.row_forms.specs.Sizes.{AreFewAndSmall};
+ghost use Rattle.row_forms.specs.Sizes.{HasSmallReach};
 ghost use Rattle.row_forms.specs.Terms.{piece_terms, terms_of};
 
 use crate::Piece;
@@ -26,7 +26,7 @@ fn push_column(
     column: Column,
     terms: &mut Vec<RowTerm>,
 ) -> Result<(), AllocError>
-    requires { AreFewAndSmall pieces.now }
+    requires { HasSmallReach pieces.now }
     ensures { OnOk result (terms.new.items ≡
         terms.old.items ++ piece_terms plant.now pieces.now (column ∷ [])) }
 {
@@ -45,7 +45,7 @@ fn push_amounts(
     v: u8,
     terms: &mut Vec<RowTerm>,
 ) -> Result<(), AllocError>
-    requires { AreFewAndSmall pieces.now }
+    requires { HasSmallReach pieces.now }
     ensures { OnOk result (terms.new.items ≡ terms.old.items
         ++ piece_terms plant.now pieces.now (joined_below (crude_count_of plant.now) (λ c. column_of slot v (A c) ∷ []))) }
 {
@@ -63,7 +63,7 @@ fn push_operation(
     v: u8,
     terms: &mut Vec<RowTerm>,
 ) -> Result<(), AllocError>
-    requires { AreFewAndSmall pieces.now }
+    requires { HasSmallReach pieces.now }
     ensures { OnOk result (terms.new.items ≡ terms.old.items
         ++ piece_terms plant.now pieces.now (operation_columns (crude_count_of plant.now) slot v)) }
 {
@@ -83,7 +83,7 @@ fn push_operations(
     slot: u32,
     terms: &mut Vec<RowTerm>,
 ) -> Result<(), AllocError>
-    requires { AreFewAndSmall pieces.now }
+    requires { HasSmallReach pieces.now }
     ensures { OnOk result (terms.new.items ≡ terms.old.items
         ++ piece_terms plant.now pieces.now (joined_below (op_count_of plant.now) (operation_columns (crude_count_of plant.now) slot))) }
 {
@@ -100,7 +100,7 @@ fn push_slot(
     slot: u32,
     terms: &mut Vec<RowTerm>,
 ) -> Result<(), AllocError>
-    requires { AreFewAndSmall pieces.now }
+    requires { HasSmallReach pieces.now }
     ensures { OnOk result (terms.new.items ≡ terms.old.items
         ++ piece_terms plant.now pieces.now (slot_columns (op_count_of plant.now) (crude_count_of plant.now) slot)) }
 {
@@ -118,7 +118,7 @@ fn push_slots(
     n: u32,
     terms: &mut Vec<RowTerm>,
 ) -> Result<(), AllocError>
-    requires { AreFewAndSmall pieces.now }
+    requires { HasSmallReach pieces.now }
     ensures { OnOk result (terms.new.items ≡ terms.old.items
         ++ piece_terms plant.now pieces.now (joined_below n (λ k. slot_columns (op_count_of plant.now) (crude_count_of plant.now) (k + 1)))) }
 {
@@ -138,7 +138,7 @@ fn vessel_count(plant: &Plant) -> u8
 
 /// Adds the terms of the vessels.
 fn push_waits(plant: &Plant, pieces: &[Piece], terms: &mut Vec<RowTerm>) -> Result<(), AllocError>
-    requires { AreFewAndSmall pieces.now }
+    requires { HasSmallReach pieces.now }
     ensures { OnOk result (terms.new.items ≡ terms.old.items
         ++ piece_terms plant.now pieces.now (joined_below (length plant.now.vessels) (λ p. vessel_column p ∷ []))) }
 {
@@ -156,7 +156,7 @@ pub fn build_terms(
     n: u32,
     pieces: &[Piece],
 ) -> Result<RowTerms, AllocError>
-    requires { AreFewAndSmall pieces.now }
+    requires { HasSmallReach pieces.now }
     ensures value { IfOk result (λ terms. terms ≡ terms_of plant.now n pieces.now) }
     ensures once { IfOk result (λ terms. HasEachOnce terms) }
 {

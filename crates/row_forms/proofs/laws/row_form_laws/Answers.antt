@@ -6,7 +6,7 @@ use Rattle.row_forms.proofs.OfColumnLaws.{columns_are_few, terms_are_of_columns}
 use Rattle.row_forms.proofs.OnceLaws.{columns-apart, terms-once}
 use Rattle.row_forms.proofs.PieceLaws.{one_slot_is_its_figure, first_slots_are_their_figures, wait_is_the_vessels}
 use Rattle.row_forms.proofs.RunLaws.{fits-run}
-use Rattle.row_forms.proofs.TermLaws.{terms_are_small}
+use Rattle.row_forms.proofs.TermLaws.{terms_are_small, few_pieces_reach_little}
 use Rattle.row_forms.proofs.ValueLaws.{value-at_form, rows_hold_by_pieces}
 use Rattle.row_forms.proofs.laws.row_form_laws.Goals as goal
 
@@ -39,3 +39,6 @@ returns-clause-few c = columns_are_few c.args.plant.now c.sound.ensures.plant
 
 pub returns-clause-rows : goal.returns-clause-rows
 returns-clause-rows c = rows_hold_by_pieces c.args.plant.now c.sound.ensures.plant
+
+pub returns-clause-reach : goal.returns-clause-reach
+returns-clause-reach c = few_pieces_reach_little
