@@ -183,7 +183,8 @@ number-slot parts word k v part =
     rw (ne_eqb (k + 1) 0 some, back) refl
 
 slot-sum : (parts : Parts) (n : ℕ) (word : List Timed) (piece : Piece) (k : ℕ) → Fits parts word →
-    sum_by (taken_of parts word piece) (slot_columns (op_count_of parts) (crude_count_of parts) (k + 1)) ≡ when (is_slot piece (k + 1)) (figure_at parts word piece.which piece.figure k)
+    sum_by (taken_of parts word piece) (slot_columns (op_count_of parts) (crude_count_of parts) (k + 1)) ≡
+    when (is_slot piece (k + 1)) (figure_at parts word piece.which piece.figure k)
 slot-sum parts n word piece k fits =
     let ops = op_count_of parts in
     let crudes = crude_count_of parts in
@@ -195,7 +196,8 @@ slot-sum parts n word piece k fits =
     let rest = sum_by-joined_below g ops columns in
     let each = sum_below-same ops (λ v. sum_by g (columns v)) (λ v. entry_sum parts word piece.figure k (s && takes parts piece.which v) v)
     (λ v under. operation-sum g crudes (k + 1) v
-    ∙ parts-same crudes (λ part. g (column_of (k + 1) v part)) (λ part. when (s && takes parts piece.which v && is_of piece.figure part) (entry_number parts word k v part))
+    ∙ parts-same crudes (λ part. g (column_of (k + 1) v part))
+    (λ part. when (s && takes parts piece.which v && is_of piece.figure part) (entry_number parts word k v part))
     (λ (part : Part). ap (when (s && takes parts piece.which v && is_of piece.figure part)) (number-slot parts word k v part))) in
     let whole = slot-whole parts word piece.which piece.figure k s fits in
     omega arith

@@ -26,7 +26,8 @@ slot-there extent k under =
 
 columns-there : (extent : Extent) → All (IsColumn extent) (columns_of extent)
 columns-there extent =
-    All-append (IsColumn extent) (joined_below extent.slots (λ k. slot_columns extent.ops extent.crudes (k + 1))) (joined_below extent.vessels (λ p. vessel_column p ∷ []))
+    All-append (IsColumn extent)
+    (joined_below extent.slots (λ k. slot_columns extent.ops extent.crudes (k + 1))) (joined_below extent.vessels (λ p. vessel_column p ∷ []))
     (All-joined_below (IsColumn extent) extent.slots (λ k. slot_columns extent.ops extent.crudes (k + 1)) (slot-there extent))
     (All-joined_below (IsColumn extent) extent.vessels (λ p. vessel_column p ∷ [])
     (λ p under. All-cons (IsColumn extent) (vessel_column p) [] (record { slot_there = refl; part_there = under }) (All-nil (IsColumn extent))))

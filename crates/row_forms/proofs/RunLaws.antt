@@ -29,7 +29,8 @@ step_runs : (parts : Parts) (order : Order) (word : List Timed) (k : ℕ) → So
     RunsSoundly parts (state_after parts (take k word)) (step_of word k)
 step_runs parts order word k sound runs there =
     let one = subst (CanRun parts order) (take_more word k no_step there) (front_runs parts order word (k + 1) runs) in
-    runs_soundly parts order (take k word) (step_of word k) (length (take k word) + 1) sound (op_faults-accepted parts order (take k word) (step_of word k) [] one)
+    runs_soundly parts order (take k word) (step_of word k) (length (take k word) + 1) sound
+    (op_faults-accepted parts order (take k word) (step_of word k) [] one)
 
 pub fits-run : (parts : Parts) (order : Order) (word : List Timed) → SoundPlant parts → CanRun parts order word → Fits parts word
 fits-run parts order word sound runs = record {

@@ -52,7 +52,8 @@ sum_below-at n d f =
       | inl there ↦
           let single = sum_below-single n d (λ c. when (c == d) (f c)) there (λ k under other. rw (ne_eqb k d other) refl) in
           rw (lt-ltb d n there) (single ∙ rw (eq-eqb d d refl) refl)
-      | inr past ↦ rw (le-ltb d n past) (sum_below-zeros n (λ c. when (c == d) (f c)) (λ k under. let other : k ≡ d → ⊥ = λ (same : k ≡ d). omega arith in rw (ne_eqb k d other) refl))
+      | inr past ↦ rw (le-ltb d n past) (sum_below-zeros n (λ c. when (c == d) (f c))
+          (λ k under. let other : k ≡ d → ⊥ = λ (same : k ≡ d). omega arith in rw (ne_eqb k d other) refl))
     ]
 
 sum_below-front : (n : ℕ) (f : ℕ → ℕ) → sum_below (suc n) f ≡ f 0 + sum_below n (λ c. f (suc c))

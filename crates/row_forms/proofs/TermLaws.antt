@@ -23,7 +23,8 @@ use Rattle.row_forms.specs.Sizes.{part_reach, figure_reach, piece_reach}
 use Rattle.row_forms.specs.Terms.{terms_over}
 
 -- what holds of each column with its factor holds of the terms
-pub all-terms : (P : RowTerm → Type 0) (factor : Column → ℤ) (columns : List Column) → All (λ column. P (record { column = column; factor = factor column })) columns →
+pub all-terms : (P : RowTerm → Type 0) (factor : Column → ℤ) (columns : List Column) →
+    All (λ column. P (record { column = column; factor = factor column })) columns →
     All P (terms_over factor columns)
 all-terms P factor [] each = All-nil P
 all-terms P factor (column ∷ columns) each =

@@ -97,7 +97,8 @@ value-at_form parts n word pieces fits =
     let columns = columns_of (extent_of parts n) in
     terms-value (factor_at parts pieces) (numbers_of parts word) columns
     ∙ (pieces-value parts word columns pieces
-    ∙ total_by-same (λ piece. piece.factor *ℤ pos (sum_by (taken_of parts word piece) columns)) (λ piece. piece.factor *ℤ pos (piece_sum parts n word piece)) pieces
+    ∙ total_by-same (λ piece. piece.factor *ℤ pos (sum_by (taken_of parts word piece) columns))
+    (λ piece. piece.factor *ℤ pos (piece_sum parts n word piece)) pieces
     (λ piece. ap (λ (s : ℕ). piece.factor *ℤ pos s) (columns-sum parts n word piece fits)))
 
 pub rows_hold_by_pieces : (parts : Parts) → SoundPlant parts → RowsHoldByPieces parts

@@ -25,10 +25,14 @@ idle_column slot = column_of slot IDLE_ENTRY Z
 abbrev pub vessel_column : ℕ → Column
 vessel_column p = column_of 0 p W
 
+-- what operation v draws in a slot, crude by crude
+abbrev pub amount_columns : ℕ → ℕ → ℕ → List Column
+amount_columns crudes slot v = joined_below crudes (λ c. column_of slot v (A c) ∷ [])
+
 -- the columns of operation v in a slot
 abbrev pub operation_columns : ℕ → ℕ → ℕ → List Column
 operation_columns crudes slot v =
-    column_of slot v Z ∷ column_of slot v S ∷ column_of slot v E ∷ joined_below crudes (λ c. column_of slot v (A c) ∷ [])
+    column_of slot v Z ∷ column_of slot v S ∷ column_of slot v E ∷ amount_columns crudes slot v
 
 -- the columns of a slot
 abbrev pub slot_columns : ℕ → ℕ → ℕ → List Column

@@ -1,8 +1,7 @@
 ghost use Rattle.std.specs.Prelude.{◌≡◌, ◌+◌, [], ◌∷◌, ◌++◌, length, OnOk, IfOk};
-ghost use Rattle.linear_form.specs.declared.column.Part.TheVariants.{A};
 ghost use Rattle.linear_form.specs.Rows.{HasEachOnce};
 ghost use Rattle.plant_model.specs.Parts.{op_count_of, crude_count_of};
-ghost use Rattle.row_forms.specs.Columns.{joined_below, column_of, vessel_column, operation_columns, slot_columns};
+ghost use Rattle.row_forms.specs.Columns.{joined_below, column_of, vessel_column, amount_columns, operation_columns, slot_columns};
 ghost use Rattle.row_forms.specs.Sizes.{HasSmallReach};
 ghost use Rattle.row_forms.specs.Terms.{piece_terms, terms_of};
 
@@ -47,7 +46,7 @@ fn push_amounts(
 ) -> Result<(), AllocError>
     requires { HasSmallReach pieces.now }
     ensures { OnOk result (terms.new.items ≡ terms.old.items
-        ++ piece_terms plant.now pieces.now (joined_below (crude_count_of plant.now) (λ c. column_of slot v (A c) ∷ []))) }
+        ++ piece_terms plant.now pieces.now (amount_columns (crude_count_of plant.now) slot v)) }
 {
     for crude in 0..plant.crude_count() {
         push_column(plant, pieces, column_of(slot, v, Part::A(crude)), terms)?;
@@ -85,7 +84,8 @@ fn push_operations(
 ) -> Result<(), AllocError>
     requires { HasSmallReach pieces.now }
     ensures { OnOk result (terms.new.items ≡ terms.old.items
-        ++ piece_terms plant.now pieces.now (joined_below (op_count_of plant.now) (operation_columns (crude_count_of plant.now) slot))) }
+        ++ piece_terms plant.now pieces.now
+        (joined_below (op_count_of plant.now) (operation_columns (crude_count_of plant.now) slot))) }
 {
     for v in 0..plant.op_count() {
         push_operation(plant, pieces, slot, v, terms)?;
@@ -120,7 +120,8 @@ fn push_slots(
 ) -> Result<(), AllocError>
     requires { HasSmallReach pieces.now }
     ensures { OnOk result (terms.new.items ≡ terms.old.items
-        ++ piece_terms plant.now pieces.now (joined_below n (λ k. slot_columns (op_count_of plant.now) (crude_count_of plant.now) (k + 1)))) }
+        ++ piece_terms plant.now pieces.now
+        (joined_below n (λ k. slot_columns (op_count_of plant.now) (crude_count_of plant.now) (k + 1)))) }
 {
     for k in 0..n {
         push_slot(plant, pieces, k + 1, terms)?;

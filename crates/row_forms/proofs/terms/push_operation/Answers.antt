@@ -8,5 +8,6 @@ use Rattle.row_forms.proofs.terms.push_operation.Goals as goal
 pub returns-then-not-reach_entry : goal.returns-then-not-reach_entry
 returns-then-not-reach_entry c =
     let start = c.args.terms.now.items in
-    let terms = operation-none c.args.plant.now c.args.pieces.now (crude_count_of c.args.plant.now) c.args.slot c.args.v (sym c.reach_entry.ensures ∙ c.if-not-reach_entry.true) in
+    let terms = operation-none c.args.plant.now c.args.pieces.now (crude_count_of c.args.plant.now) c.args.slot c.args.v
+    (sym c.reach_entry.ensures ∙ c.if-not-reach_entry.true) in
     sym (ap (λ (more : List RowTerm). start ++ more) terms ∙ append-nil start)

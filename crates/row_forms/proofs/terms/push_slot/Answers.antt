@@ -9,5 +9,6 @@ pub returns-then-not-reach_slot : goal.returns-then-not-reach_slot
 returns-then-not-reach_slot c =
     let start = c.args.terms.now.items in
     let parts = c.args.plant.now in
-    let terms = slot-none parts c.args.pieces.now (op_count_of parts) (crude_count_of parts) c.args.slot (sym c.reach_slot.ensures ∙ c.if-not-reach_slot.true) in
+    let terms = slot-none parts c.args.pieces.now (op_count_of parts) (crude_count_of parts) c.args.slot
+    (sym c.reach_slot.ensures ∙ c.if-not-reach_slot.true) in
     sym (ap (λ (more : List RowTerm). start ++ more) terms ∙ append-nil start)
