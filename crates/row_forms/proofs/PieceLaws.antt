@@ -1,22 +1,56 @@
--- Pieces of one slot, of the first slots, and of a vessel.
-use Rattle.std.proofs.Common.{◌≡◌, ℕ, ◌+◌, ◌-◌, ◌<◌, ◌≤◌, inl, inr, true, false, List, length, ℤ, ◌∙◌, refl, arith}
-use Rattle.std.specs.Prelude.{◌&&◌, nat_le}
-use Rattle.std.proofs.lemmas.Bool.{cases_lt, cases_Bool, eq-eqb, ne_eqb, le-leb, lt-leb}
+-- Figures of operations; pieces of one slot, of the first slots, and of a vessel.
+use Rattle.std.proofs.Common.{◌≡◌, ℕ, ◌+◌, ◌-◌, ◌<◌, ◌≤◌, inl, inr, Bool, true, false, List, length, ℤ, ◌∙◌, refl, arith}
+use Rattle.std.specs.Prelude.{◌&&◌, nat_lt, nat_le}
+use Rattle.std.proofs.lemmas.Bool.{lt-ltb, le-ltb, cases_lt, cases_Bool, eq-eqb, ne_eqb, le-leb, lt-leb}
+use Rattle.linear_form.specs.declared.column.TheConstants.{IDLE_ENTRY}
+use Rattle.linear_form.specs.declared.column.Part.TheVariants.{Z}
 use Rattle.number_laws.specs.Sums.{sum_below}
 use Rattle.plant_model.specs.declared.parts.Parts.{Parts}
+use Rattle.plant_model.specs.Parts.{op_count_of}
+use Rattle.plant_model.specs.Sound.{SoundPlant}
 use Rattle.replay_core.specs.declared.timed.Timed.{Timed}
 use Rattle.replay_core.specs.Margin.{wait_of}
 use Rattle.row_forms.specs.declared.piece.Figure.{Figure}
 use Rattle.row_forms.specs.declared.piece.Figure.TheVariants.{Wait}
 use Rattle.row_forms.specs.declared.piece.Piece.{Piece}
 use Rattle.row_forms.specs.declared.piece.Which.{Which}
-use Rattle.row_forms.specs.declared.piece.Which.TheVariants.{One}
+use Rattle.row_forms.specs.declared.piece.Which.TheVariants.{Any, Idle, One, From, Into, Among, Charges}
 use Rattle.row_forms.specs.Columns.{vessel_column}
-use Rattle.row_forms.specs.Laws.{OneSlotIsItsFigure, FirstSlotsAreTheirFigures, WaitIsTheVessels}
+use Rattle.row_forms.specs.Laws.{FiguresAreOfOperations, OneSlotIsItsFigure, FirstSlotsAreTheirFigures, WaitIsTheVessels}
 use Rattle.row_forms.specs.Numbers.{when}
-use Rattle.row_forms.specs.Pieces.{covers, piece_of, wait_piece}
-use Rattle.row_forms.specs.Sums.{figure_at, sum_of_slots, sum_of_waits}
+use Rattle.row_forms.specs.Pieces.{takes, is_of, covers, piece_of, wait_piece}
+use Rattle.row_forms.specs.Sums.{TakesOperations, figure_at, sum_of_slots, sum_of_waits}
 use Rattle.row_forms.proofs.SumLaws.{sum_below-same, sum_below-zeros, sum_below-cut, sum_below-single}
+
+-- ---- figures of operations
+
+none_past : (parts : Parts) → SoundPlant parts → nat_lt IDLE_ENTRY (op_count_of parts) ≡ false
+none_past parts sound = (let few = sound.ops in le-ltb IDLE_ENTRY (op_count_of parts) (omega arith))
+
+idle-none : (parts : Parts) (which : Which) → SoundPlant parts → TakesOperations parts which → takes parts which IDLE_ENTRY ≡ false
+idle-none parts Any sound own = absurd own
+idle-none parts Idle sound own = absurd own
+idle-none parts (One v) sound own =
+    let few = sound.ops in
+    let apart : IDLE_ENTRY ≡ v → ⊥ = λ (same : IDLE_ENTRY ≡ v). omega arith in
+    ne_eqb IDLE_ENTRY v apart
+idle-none parts (From p) sound own = rw (none_past parts sound) refl
+idle-none parts (Into p) sound own = rw (none_past parts sound) refl
+idle-none parts (Among mask) sound own = rw (none_past parts sound) refl
+idle-none parts Charges sound own = rw (none_past parts sound) refl
+
+when-none : (b : Bool) → when (b && false) 1 ≡ 0
+when-none true = refl
+when-none false = refl
+
+pub figures_are_of_operations : (parts : Parts) → SoundPlant parts → FiguresAreOfOperations parts
+figures_are_of_operations parts sound word which figure k own =
+    elim (cases_lt k (length word)) [
+      | inl there ↦ rw (lt-ltb k (length word) there) refl
+      | inr past ↦ rw (le-ltb k (length word) past, idle-none parts which sound own) (when-none (is_of figure Z))
+    ]
+
+-- ---- slots and vessels
 
 inside : (a b x : ℕ) → a ≤ x → x ≤ b → (nat_le a x && nat_le x b) ≡ true
 inside a b x above below = rw (le-leb a x above, le-leb x b below) refl

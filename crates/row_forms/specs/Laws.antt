@@ -15,10 +15,10 @@ use Rattle.row_forms.specs.declared.piece.Inequality.{Inequality}
 use Rattle.row_forms.specs.declared.piece.Piece.{Piece}
 use Rattle.row_forms.specs.declared.piece.Which.{Which}
 use Rattle.row_forms.specs.Columns.{extent_of}
-use Rattle.row_forms.specs.Numbers.{numbers_of}
+use Rattle.row_forms.specs.Numbers.{when, numbers_of}
 use Rattle.row_forms.specs.Pieces.{piece_of, wait_piece}
 use Rattle.row_forms.specs.Sizes.{part_reach, HasSmallReach, AreFewAndSmall}
-use Rattle.row_forms.specs.Sums.{figure_at, piece_sum, sum_of_pieces}
+use Rattle.row_forms.specs.Sums.{TakesOperations, is_taken, figure_of, figure_at, piece_sum, sum_of_pieces}
 use Rattle.row_forms.specs.Terms.{terms_of, row_of}
 
 -- forms of a plant have no more columns than are asked for
@@ -58,6 +58,12 @@ RowsHoldByPieces parts =
     ↔ (sum_of_pieces parts n word inequality.pieces ≤ℤ inequality.right)
 
 -- ---- what some pieces come to
+
+-- where operations alone are taken, an idle slot has no figure
+abbrev pub FiguresAreOfOperations : Parts → Type 0
+FiguresAreOfOperations parts =
+    (word : List Timed) (which : Which) (figure : Figure) (k : ℕ) → TakesOperations parts which →
+    figure_at parts word which figure k ≡ when (is_taken parts word which k) (figure_of parts word k figure)
 
 -- a piece of one slot
 abbrev pub OneSlotIsItsFigure : Parts → Type 0

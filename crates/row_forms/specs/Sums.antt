@@ -1,13 +1,15 @@
--- What a piece comes to at the numbers of a form.
-use Rattle.std.specs.Prelude.{ℕ, ◌+◌, ◌&&◌, nat_lt, if◌then◌else◌, List, length, sum, slice_index, ℤ, pos, ◌*ℤ◌}
+-- What figures and pieces come to at the numbers of a form.
+use Rattle.std.specs.Prelude.{ℕ, Bool, ⊤, ◌+◌, ◌<◌, ◌&&◌, nat_lt, if◌then◌else◌, List, length, sum, slice_index, ℤ, pos, ◌*ℤ◌}
 use Rattle.number_laws.specs.SignedSums.{total_by}
 use Rattle.number_laws.specs.Sums.{sum_below}
 use Rattle.linear_form.specs.declared.column.TheConstants.{IDLE_ENTRY}
 use Rattle.linear_form.specs.declared.column.Part.TheVariants.{Z}
 use Rattle.plant_model.specs.declared.parts.Parts.{Parts}
+use Rattle.plant_model.specs.Parts.{op_count_of}
 use Rattle.replay_core.specs.declared.timed.Timed.{Timed}
 use Rattle.replay_core.specs.Margin.{wait_of}
 use Rattle.row_forms.specs.declared.piece.Which.{Which}
+use Rattle.row_forms.specs.declared.piece.Which.TheVariants.{Any, Idle, One, From, Into, Among, Charges}
 use Rattle.row_forms.specs.declared.piece.Figure.{Figure}
 use Rattle.row_forms.specs.declared.piece.Figure.TheVariants.{Choice, Volume, Amount, Start, End, Wait}
 use Rattle.row_forms.specs.declared.piece.Piece.{Piece}
@@ -30,6 +32,20 @@ figure_at parts word which figure k =
     if nat_lt k (length word)
     then when (takes parts which (step_of word k).op) (figure_of parts word k figure)
     else when (is_of figure Z && takes parts which IDLE_ENTRY) 1
+
+-- the entries that are taken are operations of the plant
+abbrev pub TakesOperations : Parts → Which → Type 0
+TakesOperations parts Any = ⊥
+TakesOperations parts Idle = ⊥
+TakesOperations parts (One v) = v < op_count_of parts
+TakesOperations parts (From p) = ⊤
+TakesOperations parts (Into p) = ⊤
+TakesOperations parts (Among mask) = ⊤
+TakesOperations parts Charges = ⊤
+
+-- whether operation k of the word is there and taken
+abbrev pub is_taken : Parts → List Timed → Which → ℕ → Bool
+is_taken parts word which k = nat_lt k (length word) && takes parts which (step_of word k).op
 
 -- a piece over its slots
 abbrev pub sum_of_slots : Parts → ℕ → List Timed → Piece → ℕ

@@ -1,6 +1,6 @@
 ghost use Rattle.row_forms.specs.Laws.{ColumnsAreFew, TermsAreOnce, TermsAreOfColumns, TermsAreSmall, FewPiecesReachLittle};
 ghost use Rattle.row_forms.specs.Laws.{TermsComeToPieces, RowsHoldByPieces};
-ghost use Rattle.row_forms.specs.Laws.{OneSlotIsItsFigure, FirstSlotsAreTheirFigures, WaitIsTheVessels};
+ghost use Rattle.row_forms.specs.Laws.{FiguresAreOfOperations, OneSlotIsItsFigure, FirstSlotsAreTheirFigures, WaitIsTheVessels};
 
 use plant_model::Plant;
 
@@ -14,6 +14,7 @@ pub fn row_form_laws(plant: &Plant)
     ensures value { TermsComeToPieces plant.now }
     ensures rows { RowsHoldByPieces plant.now }
 
+    ensures figures { FiguresAreOfOperations plant.now }
     ensures one_slot { OneSlotIsItsFigure plant.now }
     ensures first_slots { FirstSlotsAreTheirFigures plant.now }
     ensures wait { WaitIsTheVessels plant.now }

@@ -4,7 +4,7 @@ use Rattle.row_forms.specs.Columns.{extent_of, columns_of}
 use Rattle.row_forms.specs.Pieces.{factor_at}
 use Rattle.row_forms.proofs.OfColumnLaws.{columns_are_few, terms_are_of_columns}
 use Rattle.row_forms.proofs.OnceLaws.{columns-apart, terms-once}
-use Rattle.row_forms.proofs.PieceLaws.{one_slot_is_its_figure, first_slots_are_their_figures, wait_is_the_vessels}
+use Rattle.row_forms.proofs.PieceLaws.{figures_are_of_operations, one_slot_is_its_figure, first_slots_are_their_figures, wait_is_the_vessels}
 use Rattle.row_forms.proofs.RunLaws.{fits-run}
 use Rattle.row_forms.proofs.TermLaws.{terms_are_small, few_pieces_reach_little}
 use Rattle.row_forms.proofs.ValueLaws.{value-at_form, rows_hold_by_pieces}
@@ -42,3 +42,6 @@ returns-clause-rows c = rows_hold_by_pieces c.args.plant.now c.sound.ensures.pla
 
 pub returns-clause-reach : goal.returns-clause-reach
 returns-clause-reach c = few_pieces_reach_little
+
+pub returns-clause-figures : goal.returns-clause-figures
+returns-clause-figures c = figures_are_of_operations c.args.plant.now c.sound.ensures.plant
