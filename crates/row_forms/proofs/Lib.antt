@@ -1,0 +1,10 @@
+mod SumLaws
+mod JoinedLaws
+mod RunLaws
+mod FigureLaws
+mod ValueLaws
+mod OnceLaws
+mod TermLaws
+mod OfColumnLaws
+mod PieceLaws
+mod BuildLaws
