@@ -1,0 +1,4 @@
+pub mod inside
+pub mod Runs
+pub mod Search
+pub mod Greedy
