@@ -1,0 +1,16 @@
+//! Rows on what places hold and get, and on crudes: what every plan of a plant meets, as inequalities.
+//!
+//! Totals of tanks and vessels, amounts of crudes, limits on properties, demands, emptied vessels, minutes and charges
+//! of units, and how long vessels wait. To the crates above this crate promises that [`tank_row`] gives exactly the row
+//! of a name, and none exactly where the name is none of these families, of the plant and of so many slots.
+//!
+//! Begin with `specs/Names` and `specs/Families`, which stand beside the table of rows; `specs/TankRows` has both.
+#![tactic(auto)]
+
+mod families;
+mod names;
+mod rows;
+#[cfg(test)]
+mod tests;
+
+pub use rows::tank_row;
