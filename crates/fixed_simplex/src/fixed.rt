@@ -61,9 +61,9 @@ pub(crate) fn shifted(number: i128, by: i32) -> i128 {
 
 /// How many bits the number has.
 pub(crate) fn bits_of(number: u128) -> i32 {
-    for bits in 0..128i32 {
+    for bits in 0..128u32 {
         if number >> bits == 0 {
-            return bits;
+            return bits as i32;
         }
     }
     128

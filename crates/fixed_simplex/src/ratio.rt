@@ -1,3 +1,5 @@
+ghost use Rattle.std.specs.Prelude.{◌<◌, ◌≤◌, length};
+
 use crate::fixed::{ONE, at, divided, put, times};
 use crate::scale::Program;
 use crate::solving::{Basis, Work};
@@ -104,7 +106,11 @@ fn row_breaks(
 }
 
 /// Where the breaks end that are as near as the one at `from`.
-fn end_of_near(breaks: &[Break], from: usize) -> usize {
+fn end_of_near(breaks: &[Break], from: usize) -> usize
+    requires { from < length breaks.now }
+    ensures begin { from ≤ result }
+    ensures end { result ≤ length breaks.now }
+{
     let first = at(breaks, from, Break::NONE).ratio;
     for k in from..breaks.len() {
         if breaks[k].ratio > first.saturating_add(NEAR) {

@@ -142,8 +142,9 @@ fn scale_rows(entries: &mut [Entry], starts: &[usize], shifts: &[i32], row_shift
     for r in 0..row_shifts.len() {
         let to = at(starts, r + 1, 0).min(entries.len());
         let from = at(starts, r, 0).min(to);
-        let row_shift = 0i32.saturating_sub(greatest_bits(&entries[from..to], shifts));
-        scale_row(&mut entries[from..to], shifts, row_shift);
+        let row = &mut entries[from..to];
+        let row_shift = 0i32.saturating_sub(greatest_bits(row, shifts));
+        scale_row(row, shifts, row_shift);
         row_shifts[r] = row_shift;
     }
 }
