@@ -15,6 +15,7 @@
 //! list and matrix is read and written by calls that answer 0 and change nothing outside it.
 #![tactic(auto)]
 
+mod denominators;
 mod fixed;
 mod inverse;
 mod pivot;

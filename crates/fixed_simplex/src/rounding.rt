@@ -3,6 +3,7 @@ ghost use Rattle.linear_form.specs.Columns.{count_of};
 ghost use Rattle.dual_bound.specs.Conditions.{IsSystem, IsObjective, IsGuess};
 ghost use Rattle.limits.specs.declared.TheConstants.{MOST_MULTIPLIER, SIMPLEX_COLUMNS};
 
+use crate::denominators::{common, finest, greatest_of};
 use crate::fixed::{ONE, at, bits_of, put, shifted};
 use crate::price::find_prices;
 use crate::scale::{Program, program_of};
@@ -17,9 +18,6 @@ const DENOMINATORS: [u64; 7] = [1, 2, 3, 4, 6, 8, 12];
 
 /// The greatest numbers to which a row's share in a contradiction is rounded.
 const GREATEST_SHARES: [u64; 4] = [1, 1_000, 1_000_000, 4_000_000_000];
-
-/// The finest denominator that is tried.
-const FINEST: u64 = 1 << 20;
 
 /// So many times the number by the unit, rounded, within the limit of multipliers.
 fn rounded(number: i128, times: u64, unit: i128) -> u64
@@ -63,15 +61,6 @@ fn row_prices(program: &Program, basis: &Basis, prices: &[i128], numbers: &mut [
         let shift = at(program.row_shifts.as_slice(), r, 0).saturating_sub(program.gain_shift);
         put(numbers, r, shifted(at(prices, q, 0).max(0), shift));
     }
-}
-
-/// The greatest of the numbers.
-fn greatest_of(numbers: &[i128]) -> i128 {
-    let mut greatest = 0;
-    for number in numbers {
-        greatest = greatest.max(*number);
-    }
-    greatest
 }
 
 /// The prices of the rows by these gains.
@@ -181,15 +170,6 @@ fn try_denominator(
     }
 }
 
-/// The greatest denominator up to 2^20 with which every number stays within the limit, 1 at least.
-fn finest(numbers: &[i128]) -> u64
-    ensures some { 1 ≤ result }
-    ensures most { result ≤ MOST_MULTIPLIER }
-{
-    let whole = (greatest_of(numbers) >> 40).clamp(0, i128::from(MOST_MULTIPLIER)) as u64;
-    (MOST_MULTIPLIER / (whole + 1)).clamp(1, FINEST)
-}
-
 /// Tries the denominators up to the finest one, the small ones first, until one comes to no greater bound.
 fn try_denominators(
     alloc: Global,
@@ -253,6 +233,8 @@ fn round_prices(
     price_rows(program, program.gains.as_slice(), basis, work, numbers);
     let q = finest(numbers);
     let best = try_denominator(alloc, rows, ranges, objective, numbers, q, none)?;
+    let q = common(numbers, q);
+    let best = try_denominator(alloc, rows, ranges, objective, numbers, q, best)?;
     let best = try_denominators(alloc, rows, ranges, objective, numbers, best)?;
     price_rows(
         program,
