@@ -31,16 +31,12 @@ fn take_row(sums: &mut [i128], entries: &[Entry], price: i128) -> Option<()> {
 /// What the prices leave of each column's gain.
 pub(crate) fn find_weights(
     program: &Program,
+    gains: &[i128],
     basis: &Basis,
     prices: &[i128],
     weights: &mut [i128],
 ) -> Option<()> {
-    copy_first(
-        weights,
-        program.moved_gains.as_slice(),
-        weights.len(),
-        false,
-    );
+    copy_first(weights, gains, weights.len(), false);
     for q in 0..basis.count {
         take_row(weights, program.row(basis.row_at(q)), at(prices, q, 0))?;
     }
@@ -214,4 +210,35 @@ pub(crate) fn find_slopes(
         work.slopes.as_slice(),
         work.reduced.as_mut_slice(),
     )
+}
+
+/// What the tight rows come to by their prices.
+fn right_value(program: &Program, basis: &Basis, prices: &[i128]) -> Option<i128> {
+    let mut sum: i128 = 0;
+    for q in 0..basis.count {
+        let right = at(program.rights.as_slice(), basis.row_at(q), 0);
+        sum = sum.checked_add(times(at(prices, q, 0), right)?)?;
+    }
+    Some(sum)
+}
+
+/// The dual value of the program: the tight rows by their prices, and the most that each column earns besides.
+pub(crate) fn dual_value(
+    program: &Program,
+    basis: &Basis,
+    prices: &[i128],
+    weights: &[i128],
+) -> Option<i128> {
+    let mut sum = right_value(program, basis, prices)?;
+    for j in 0..weights.len() {
+        if basis.column_place(j).is_none() {
+            let end = if weights[j] > 0 {
+                at(program.most.as_slice(), j, 0)
+            } else {
+                at(program.least.as_slice(), j, 0)
+            };
+            sum = sum.checked_add(times(weights[j], end)?)?;
+        }
+    }
+    Some(sum)
 }

@@ -5,7 +5,7 @@ ghost use Rattle.limits.specs.declared.TheConstants.{MOST_MULTIPLIER, SIMPLEX_CO
 
 use crate::denominators::{common, finest, greatest_of};
 use crate::fixed::{ONE, at, bits_of, put, shifted};
-use crate::price::find_prices;
+use crate::price::{dual_value, find_prices, find_weights};
 use crate::scale::{Program, program_of};
 use crate::solving::{Basis, Leaving, Stopped, Work, solve};
 use dual_bound::{Guess, YList, bound, shows_empty};
@@ -18,6 +18,9 @@ const DENOMINATORS: [u64; 7] = [1, 2, 3, 4, 6, 8, 12];
 
 /// The greatest numbers to which a row's share in a contradiction is rounded.
 const GREATEST_SHARES: [u64; 4] = [1, 1_000, 1_000_000, 4_000_000_000];
+
+/// What an optimum may lack to be a whole number: about a thousandth.
+const NEARLY: i128 = ONE >> 10;
 
 /// So many times the number by the unit, rounded, within the limit of multipliers.
 fn rounded(number: i128, times: u64, unit: i128) -> u64
@@ -76,6 +79,16 @@ fn price_rows(
         prices.fill(0);
     }
     row_prices(program, basis, prices, numbers);
+}
+
+/// The value of the program at the basis by the prices there, as the objective was given, rounded down.
+fn optimum(program: &Program, basis: &Basis, work: &mut Work) -> Option<i128> {
+    let prices = work.prices.as_slice();
+    let weights = work.weights.as_mut_slice();
+    find_weights(program, program.gains.as_slice(), basis, prices, weights)?;
+    let value = dual_value(program, basis, prices, weights)?;
+    let given = shifted(value, 0i32.saturating_sub(program.gain_shift));
+    Some(given.saturating_add(NEARLY) >> 40)
 }
 
 /// The bits of the greatest number once each is shifted by its row.
@@ -143,7 +156,7 @@ struct Best {
     value: i128,
 }
 
-/// Tries the guess of a denominator, and keeps it where its bound is no greater.
+/// Tries the guess of a denominator, and keeps it where its bound is less.
 fn try_denominator(
     alloc: Global,
     rows: &RowList,
@@ -163,20 +176,21 @@ fn try_denominator(
 {
     let guess = guess_of(alloc, numbers, q, ONE, q)?;
     let value = bound(rows, ranges, objective, &guess);
-    if value <= best.value {
+    if value < best.value {
         Ok(Best { guess, value })
     } else {
         Ok(best)
     }
 }
 
-/// Tries the denominators up to the finest one, the small ones first, until one comes to no greater bound.
-fn try_denominators(
+/// Tries the small denominators, of those up to the finest one, until the bound is the target.
+fn try_small(
     alloc: Global,
     rows: &RowList,
     ranges: &Ranges,
     objective: &Objective,
     numbers: &[i128],
+    target: i128,
     first: Best,
 ) -> Result<Best, AllocError>
     requires system { IsSystem rows.now ranges.now }
@@ -188,12 +202,41 @@ fn try_denominators(
     let finest = finest(numbers);
     let mut best = first;
     for q in DENOMINATORS {
-        if best.guess.q <= q || q > finest {
+        if best.value <= target || q > finest {
             return Ok(best);
         }
         best = try_denominator(alloc, rows, ranges, objective, numbers, q, best)?;
     }
     Ok(best)
+}
+
+/// Tries the small denominators, then one that all numbers have in common, then the finest.
+fn try_all(
+    alloc: Global,
+    rows: &RowList,
+    ranges: &Ranges,
+    objective: &Objective,
+    numbers: &[i128],
+    target: i128,
+    first: Best,
+) -> Result<Best, AllocError>
+    requires system { IsSystem rows.now ranges.now }
+    requires objective { IsObjective ranges.now objective.now }
+    requires numbers { length numbers.now ≡ length rows.now }
+    requires first { IsGuess rows.now first.guess.y first.guess.q }
+    ensures { IfOk result (λ best. IsGuess rows.now best.guess.y best.guess.q) }
+{
+    let best = try_small(alloc, rows, ranges, objective, numbers, target, first)?;
+    if best.value <= target {
+        return Ok(best);
+    }
+    let finest = finest(numbers);
+    let shared = common(numbers, finest);
+    let best = try_denominator(alloc, rows, ranges, objective, numbers, shared, best)?;
+    if best.value <= target {
+        return Ok(best);
+    }
+    try_denominator(alloc, rows, ranges, objective, numbers, finest, best)
 }
 
 /// No multipliers at all.
@@ -231,11 +274,8 @@ fn round_prices(
 {
     let none = zeros(alloc, rows, ranges, objective)?;
     price_rows(program, program.gains.as_slice(), basis, work, numbers);
-    let q = finest(numbers);
-    let best = try_denominator(alloc, rows, ranges, objective, numbers, q, none)?;
-    let q = common(numbers, q);
-    let best = try_denominator(alloc, rows, ranges, objective, numbers, q, best)?;
-    let best = try_denominators(alloc, rows, ranges, objective, numbers, best)?;
+    let target = optimum(program, basis, work).unwrap_or(i128::MIN);
+    let best = try_all(alloc, rows, ranges, objective, numbers, target, none)?;
     price_rows(
         program,
         program.moved_gains.as_slice(),
@@ -243,7 +283,7 @@ fn round_prices(
         work,
         numbers,
     );
-    let best = try_denominators(alloc, rows, ranges, objective, numbers, best)?;
+    let best = try_all(alloc, rows, ranges, objective, numbers, target, best)?;
     let Best { guess, value: _ } = best;
     Ok(guess)
 }

@@ -196,6 +196,7 @@ fn step(program: &Program, basis: &mut Basis, work: &mut Work) -> Option<Option<
     )?;
     find_weights(
         program,
+        program.moved_gains.as_slice(),
         basis,
         work.prices.as_slice(),
         work.weights.as_mut_slice(),
