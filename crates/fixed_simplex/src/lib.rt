@@ -20,6 +20,7 @@ mod fixed;
 mod inverse;
 mod pivot;
 mod price;
+mod problem;
 mod ratio;
 mod rounding;
 mod scale;

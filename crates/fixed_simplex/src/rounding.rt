@@ -1,11 +1,13 @@
 ghost use Rattle.std.specs.Prelude.{◌≡◌, ◌≤◌, length, All, IfOk, IfSome};
 ghost use Rattle.linear_form.specs.Columns.{count_of};
 ghost use Rattle.dual_bound.specs.Conditions.{IsSystem, IsObjective, IsGuess};
+ghost use Rattle.fixed_simplex.specs.inside.Problems.{IsWhole};
 ghost use Rattle.limits.specs.declared.TheConstants.{MOST_MULTIPLIER, SIMPLEX_COLUMNS};
 
 use crate::denominators::{common, finest, greatest_of};
 use crate::fixed::{ONE, at, bits_of, put, shifted};
 use crate::price::{dual_value, find_prices, find_weights};
+use crate::problem::Problem;
 use crate::scale::{Program, program_of};
 use crate::solving::{Basis, Leaving, Stopped, Work, solve};
 use dual_bound::{Guess, YList, bound, shows_empty};
@@ -159,23 +161,20 @@ struct Best {
 /// Tries the guess of a denominator, and keeps it where its bound is less.
 fn try_denominator(
     alloc: Global,
-    rows: &RowList,
-    ranges: &Ranges,
-    objective: &Objective,
+    problem: &Problem,
     numbers: &[i128],
     q: u64,
     best: Best,
 ) -> Result<Best, AllocError>
-    requires system { IsSystem rows.now ranges.now }
-    requires objective { IsObjective ranges.now objective.now }
-    requires numbers { length numbers.now ≡ length rows.now }
+    requires whole { IsWhole problem.now }
+    requires numbers { length numbers.now ≡ length problem.now.rows.now }
     requires some { 1 ≤ q }
     requires most { q ≤ MOST_MULTIPLIER }
-    requires best { IsGuess rows.now best.guess.y best.guess.q }
-    ensures { IfOk result (λ best. IsGuess rows.now best.guess.y best.guess.q) }
+    requires best { IsGuess problem.now.rows.now best.guess.y best.guess.q }
+    ensures { IfOk result (λ best. IsGuess problem.now.rows.now best.guess.y best.guess.q) }
 {
     let guess = guess_of(alloc, numbers, q, ONE, q)?;
-    let value = bound(rows, ranges, objective, &guess);
+    let value = bound(problem.rows, problem.ranges, problem.objective, &guess);
     if value < best.value {
         Ok(Best { guess, value })
     } else {
@@ -186,18 +185,15 @@ fn try_denominator(
 /// Tries the small denominators, of those up to the finest one, until the bound is the target.
 fn try_small(
     alloc: Global,
-    rows: &RowList,
-    ranges: &Ranges,
-    objective: &Objective,
+    problem: &Problem,
     numbers: &[i128],
     target: i128,
     first: Best,
 ) -> Result<Best, AllocError>
-    requires system { IsSystem rows.now ranges.now }
-    requires objective { IsObjective ranges.now objective.now }
-    requires numbers { length numbers.now ≡ length rows.now }
-    requires first { IsGuess rows.now first.guess.y first.guess.q }
-    ensures { IfOk result (λ best. IsGuess rows.now best.guess.y best.guess.q) }
+    requires whole { IsWhole problem.now }
+    requires numbers { length numbers.now ≡ length problem.now.rows.now }
+    requires first { IsGuess problem.now.rows.now first.guess.y first.guess.q }
+    ensures { IfOk result (λ best. IsGuess problem.now.rows.now best.guess.y best.guess.q) }
 {
     let finest = finest(numbers);
     let mut best = first;
@@ -205,7 +201,7 @@ fn try_small(
         if best.value <= target || q > finest {
             return Ok(best);
         }
-        best = try_denominator(alloc, rows, ranges, objective, numbers, q, best)?;
+        best = try_denominator(alloc, problem, numbers, q, best)?;
     }
     Ok(best)
 }
@@ -213,69 +209,57 @@ fn try_small(
 /// Tries the small denominators, then one that all numbers have in common, then the finest.
 fn try_all(
     alloc: Global,
-    rows: &RowList,
-    ranges: &Ranges,
-    objective: &Objective,
+    problem: &Problem,
     numbers: &[i128],
     target: i128,
     first: Best,
 ) -> Result<Best, AllocError>
-    requires system { IsSystem rows.now ranges.now }
-    requires objective { IsObjective ranges.now objective.now }
-    requires numbers { length numbers.now ≡ length rows.now }
-    requires first { IsGuess rows.now first.guess.y first.guess.q }
-    ensures { IfOk result (λ best. IsGuess rows.now best.guess.y best.guess.q) }
+    requires whole { IsWhole problem.now }
+    requires numbers { length numbers.now ≡ length problem.now.rows.now }
+    requires first { IsGuess problem.now.rows.now first.guess.y first.guess.q }
+    ensures { IfOk result (λ best. IsGuess problem.now.rows.now best.guess.y best.guess.q) }
 {
-    let best = try_small(alloc, rows, ranges, objective, numbers, target, first)?;
+    let best = try_small(alloc, problem, numbers, target, first)?;
     if best.value <= target {
         return Ok(best);
     }
     let finest = finest(numbers);
     let shared = common(numbers, finest);
-    let best = try_denominator(alloc, rows, ranges, objective, numbers, shared, best)?;
+    let best = try_denominator(alloc, problem, numbers, shared, best)?;
     if best.value <= target {
         return Ok(best);
     }
-    try_denominator(alloc, rows, ranges, objective, numbers, finest, best)
+    try_denominator(alloc, problem, numbers, finest, best)
 }
 
 /// No multipliers at all.
-fn zeros(
-    alloc: Global,
-    rows: &RowList,
-    ranges: &Ranges,
-    objective: &Objective,
-) -> Result<Best, AllocError>
-    requires system { IsSystem rows.now ranges.now }
-    requires objective { IsObjective ranges.now objective.now }
-    ensures { IfOk result (λ best. IsGuess rows.now best.guess.y best.guess.q) }
+fn zeros(alloc: Global, problem: &Problem) -> Result<Best, AllocError>
+    requires { IsWhole problem.now }
+    ensures { IfOk result (λ best. IsGuess problem.now.rows.now best.guess.y best.guess.q) }
 {
-    let numbers = vec![in alloc; 0i128; rows.as_slice().len()]?;
+    let numbers = vec![in alloc; 0i128; problem.rows.as_slice().len()]?;
     let guess = guess_of(alloc, numbers.as_slice(), 1, ONE, 1)?;
-    let value = bound(rows, ranges, objective, &guess);
+    let value = bound(problem.rows, problem.ranges, problem.objective, &guess);
     Ok(Best { guess, value })
 }
 
 /// Rounds the prices of the rows at a basis, and keeps the guess of least bound.
 fn round_prices(
     alloc: Global,
-    rows: &RowList,
-    ranges: &Ranges,
-    objective: &Objective,
+    problem: &Problem,
     program: &Program,
     basis: &Basis,
     work: &mut Work,
     numbers: &mut [i128],
 ) -> Result<Guess, AllocError>
-    requires system { IsSystem rows.now ranges.now }
-    requires objective { IsObjective ranges.now objective.now }
-    requires numbers { length numbers.old ≡ length rows.now }
-    ensures { IfOk result (λ guess. IsGuess rows.now guess.y guess.q) }
+    requires whole { IsWhole problem.now }
+    requires numbers { length numbers.old ≡ length problem.now.rows.now }
+    ensures { IfOk result (λ guess. IsGuess problem.now.rows.now guess.y guess.q) }
 {
-    let none = zeros(alloc, rows, ranges, objective)?;
+    let none = zeros(alloc, problem)?;
     price_rows(program, program.gains.as_slice(), basis, work, numbers);
     let target = optimum(program, basis, work).unwrap_or(i128::MIN);
-    let best = try_all(alloc, rows, ranges, objective, numbers, target, none)?;
+    let best = try_all(alloc, problem, numbers, target, none)?;
     price_rows(
         program,
         program.moved_gains.as_slice(),
@@ -283,7 +267,7 @@ fn round_prices(
         work,
         numbers,
     );
-    let best = try_all(alloc, rows, ranges, objective, numbers, target, best)?;
+    let best = try_all(alloc, problem, numbers, target, best)?;
     let Best { guess, value: _ } = best;
     Ok(guess)
 }
@@ -313,7 +297,10 @@ pub fn multipliers(
             return Ok(guess);
         }
     }
-    round_prices(
-        alloc, rows, ranges, objective, &program, &basis, &mut work, numbers,
-    )
+    let problem = Problem {
+        rows,
+        ranges,
+        objective,
+    };
+    round_prices(alloc, &problem, &program, &basis, &mut work, numbers)
 }

@@ -76,17 +76,18 @@ fn found(
     Ok((bound(rows, ranges, objective, &guess), empty))
 }
 
-// A charge earns 3 a unit, of at most 10.
+// A charge earns 3 a unit, of at most 4.
 #[test]
 fn meets_one_row(rt: HostRuntime) -> Result<(), Fail> {
     let alloc = rt.alloc();
-    let ranges = one_operation(alloc, 10)?;
+    let ranges = one_operation(alloc, 4)?;
     let a = Part::A(0);
     let gain = sum_of(alloc, &[term(a, 3)])?;
     let mut tank = RowList::new(alloc);
-    assert_eq!(rt; found(alloc, &rt, &tank, &ranges, &gain)?, (30, false));
-    add(alloc, &mut tank, &[term(a, 1)], 4)?;
     assert_eq!(rt; found(alloc, &rt, &tank, &ranges, &gain)?, (12, false));
+    // in half of the tank there are 2 units
+    add(alloc, &mut tank, &[term(a, 1)], 2)?;
+    assert_eq!(rt; found(alloc, &rt, &tank, &ranges, &gain)?, (6, false));
     // a unit a minute, for at most 2 minutes
     let mut rate = RowList::new(alloc);
     let fastest = [term(a, 1440), term(Part::E, -1440), term(Part::S, 1440)];
