@@ -21,6 +21,9 @@ const DENOMINATORS: [u64; 7] = [1, 2, 3, 4, 6, 8, 12];
 /// The greatest numbers to which a row's share in a contradiction is rounded.
 const GREATEST_SHARES: [u64; 4] = [1, 1_000, 1_000_000, 4_000_000_000];
 
+/// By which powers of two the price of a row of shift 0 may miss a whole number.
+const MISSES: [i32; 2] = [-16, -24];
+
 /// What an optimum may lack to be a whole number: about a thousandth.
 const NEARLY: i128 = ONE >> 10;
 
@@ -206,11 +209,12 @@ fn try_small(
     Ok(best)
 }
 
-/// Tries the small denominators, then one that all numbers have in common, then the finest.
+/// Tries the small denominators, then those that all numbers have in common, then the finest.
 fn try_all(
     alloc: Global,
     problem: &Problem,
     numbers: &[i128],
+    shifts: &[i32],
     target: i128,
     first: Best,
 ) -> Result<Best, AllocError>
@@ -219,15 +223,14 @@ fn try_all(
     requires first { IsGuess problem.now.rows.now first.guess.y first.guess.q }
     ensures { IfOk result (λ best. IsGuess problem.now.rows.now best.guess.y best.guess.q) }
 {
-    let best = try_small(alloc, problem, numbers, target, first)?;
-    if best.value <= target {
-        return Ok(best);
-    }
     let finest = finest(numbers);
-    let shared = common(numbers, finest);
-    let best = try_denominator(alloc, problem, numbers, shared, best)?;
-    if best.value <= target {
-        return Ok(best);
+    let mut best = try_small(alloc, problem, numbers, target, first)?;
+    for miss in MISSES {
+        if best.value <= target {
+            return Ok(best);
+        }
+        let shared = common(numbers, shifts, miss, finest);
+        best = try_denominator(alloc, problem, numbers, shared, best)?;
     }
     try_denominator(alloc, problem, numbers, finest, best)
 }
@@ -259,7 +262,8 @@ fn round_prices(
     let none = zeros(alloc, problem)?;
     price_rows(program, program.gains.as_slice(), basis, work, numbers);
     let target = optimum(program, basis, work).unwrap_or(i128::MIN);
-    let best = try_all(alloc, problem, numbers, target, none)?;
+    let shifts = program.row_shifts.as_slice();
+    let best = try_all(alloc, problem, numbers, shifts, target, none)?;
     price_rows(
         program,
         program.moved_gains.as_slice(),
@@ -267,7 +271,7 @@ fn round_prices(
         work,
         numbers,
     );
-    let best = try_all(alloc, problem, numbers, target, best)?;
+    let best = try_all(alloc, problem, numbers, shifts, target, best)?;
     let Best { guess, value: _ } = best;
     Ok(guess)
 }
