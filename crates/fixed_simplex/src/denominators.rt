@@ -62,7 +62,7 @@ fn denominator_of(number: i128, nearly: i128, greatest: u64) -> u64
 }
 
 /// A denominator that the prices of all rows nearly have in common, up to the greatest. The price of a row of shift 0
-/// may miss a whole number by two to the power of `miss`; the greater the shift of a row, the less depends on its price.
+/// may miss a whole number by two to the power of `miss`; the greater a row's shift, the less depends on its price.
 pub(crate) fn common(prices: &[i128], shifts: &[i32], miss: i32, greatest: u64) -> u64
     requires { greatest ≤ MOST_MULTIPLIER }
     ensures some { 1 ≤ result }

@@ -11,8 +11,9 @@
 //!
 //! Begin with `solving`, the loop. `scale` makes a `Program` of what is given; `price` values the rows and columns
 //! at a basis and says which row or column leaves, `ratio` which enters, and `pivot` changes the basis and the
-//! inverse of its kernel (`inverse`); `rounding` makes guesses of prices and keeps the one of least bound. Every
-//! list and matrix is read and written by calls that answer 0 and change nothing outside it.
+//! inverse of its kernel (`inverse`); `rounding` makes guesses of prices over a few denominators (`denominators`) and
+//! keeps the one of least bound. Every list and matrix is read and written by calls that answer 0 and change nothing
+//! outside it.
 #![tactic(auto)]
 
 mod denominators;
