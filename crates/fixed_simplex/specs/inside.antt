@@ -1,0 +1,2 @@
+-- What only helpers of this crate ask.
+pub mod Problems
