@@ -68,3 +68,21 @@ rest_of_more [] (y ∷ drawn) zero within = refl
 rest_of_more [] (y ∷ drawn) (suc i) within = refl
 rest_of_more (x ∷ held) (y ∷ drawn) zero within = ap (λ rest. (x - y) ∷ rest) (rest_of-nothing held)
 rest_of_more (x ∷ held) (y ∷ drawn) (suc i) within = ap (λ rest. (x - y) ∷ rest) (rest_of_more held drawn i (omega arith))
+
+-- ---- of one crude
+
+-- where no more is taken than is there
+pub crude-taken : (c : ℕ) (held drawn : List ℕ) → length drawn ≡ length held → ((d : ℕ) → get_or drawn d 0 ≤ get_or held d 0) →
+    get_or (rest_of held drawn) c 0 + get_or drawn c 0 ≡ get_or held c 0
+crude-taken c [] [] same there = omega arith
+crude-taken c [] (x ∷ drawn) same there = absurd (omega arith)
+crude-taken c (h ∷ held) [] same there = absurd (omega arith)
+crude-taken zero (h ∷ held) (x ∷ drawn) same there = let first : x ≤ h = there 0 in omega arith
+crude-taken (suc c) (h ∷ held) (x ∷ drawn) same there = crude-taken c held drawn (omega arith) (λ d. there (suc d))
+
+pub crude-added : (c : ℕ) (held drawn : List ℕ) → length drawn ≡ length held → get_or (mix_of held drawn) c 0 ≡ get_or held c 0 + get_or drawn c 0
+crude-added c [] [] same = omega arith
+crude-added c [] (x ∷ drawn) same = absurd (omega arith)
+crude-added c (h ∷ held) [] same = absurd (omega arith)
+crude-added zero (h ∷ held) (x ∷ drawn) same = refl
+crude-added (suc c) (h ∷ held) (x ∷ drawn) same = crude-added c held drawn (omega arith)

@@ -8,6 +8,7 @@ use Rattle.std.proofs.lemmas.List.Elements.{All-head, All-tail, All-take}
 use Rattle.linear_form.specs.declared.row.RowTerm.{RowTerm}
 use Rattle.linear_form.specs.Columns.{Extent, IsColumn, number_of}
 use Rattle.linear_form.specs.Rows.{RowForm, HasEachOnce}
+use Rattle.linear_form.specs.declared.column.Part.TheVariants.{Z}
 use Rattle.linear_form.proofs.ColumnLaws.{number-same}
 use Rattle.number_laws.proofs.SignedSumLaws.{abs-sum, abs-negative}
 use Rattle.dual_bound.specs.inside.Cells.{Adds, AreWithin, HasSmallFactors}
@@ -15,6 +16,10 @@ use Rattle.dual_bound.specs.Conditions.{AreColumns}
 use Rattle.dual_bound.specs.Dual.{factor_of, weighed_factor}
 use Rattle.dual_bound.proofs.CellLaws.{factor_in-here, factor_in-elsewhere, adds-within}
 use Rattle.dual_bound.proofs.StoredNumbers.{abs-product}
+
+-- no term: what is read past the last one
+abbrev pub no_term : RowTerm
+no_term = record { column = record { slot = 0; entry = 0; part = Z }; factor = pos 0 }
 
 -- no term has the number
 pub factor-elsewhere : (extent : Extent) (j : ℕ) (terms : List RowTerm) → All (λ term. number_of extent term.column ≢ j) terms →

@@ -1,10 +1,7 @@
 ghost use Rattle.std.specs.Prelude.{◌≡◌, IfOk};
 ghost use Rattle.linear_form.specs.Rows.{HasEachOnce};
 
-mod checks;
-
-use crate::tests::checks::{is_guess, is_objective, is_system};
-use crate::{Guess, YList, bound, improve, shows_empty};
+use crate::{Guess, YList, bound, improve, is_guess, is_objective, is_system, shows_empty};
 use linear_form::{Column, Objective, Part, Ranges, Row, RowList, RowTerm};
 use std::alloc::Global;
 use std::process::Abort;

@@ -1,11 +1,8 @@
 ghost use Rattle.std.specs.Prelude.{◌≡◌, IfOk};
 ghost use Rattle.linear_form.specs.Rows.{HasEachOnce};
 
-mod checks;
-
 use crate::multipliers;
-use crate::tests::checks::{is_objective, is_system};
-use dual_bound::{bound, shows_empty};
+use dual_bound::{bound, is_objective, is_system, shows_empty};
 use linear_form::{Column, Objective, Part, Ranges, Row, RowList, RowTerm};
 use std::alloc::Global;
 use std::process::Abort;

@@ -7,7 +7,8 @@
 //! on the list, and a refusal for want of memory hands back what it was given and changes nothing.
 //!
 //! Begin with `items`; `copies` is its shorter sister. `faults` has the words in which a refusal says
-//! which of several faults it names: the first in the list of all that stand.
+//! which of several faults it names: the first in the list of all that stand. `specs/Joined` has lists that are joined
+//! one after the other up to a limit.
 #![tactic(auto)]
 
 mod copies;

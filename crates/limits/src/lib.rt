@@ -55,6 +55,9 @@ pub const MOST_MARGIN: u32 = 1_000_000;
 /// The greatest value and the greatest limit of a property.
 pub const MOST_PROPERTY: u32 = 1_000_000;
 
+/// The most bytes of a name.
+pub const LONGEST_NAME: usize = 32;
+
 // ---- plans and their search
 
 /// The most slots of a search, and so the most operations of a plan that it may find. A unit has no more charges.
@@ -69,10 +72,20 @@ pub const MOST_NODES: u32 = 65_535;
 /// The most workers of a search. It has one at least.
 pub const MOST_WORKERS: u32 = 16;
 
+/// The most seats of a board at which workers share a search.
+pub const MOST_SEATS: u32 = 32;
+
+/// The greatest margin that a worker offers the others, and the least one without its sign.
+pub const MOST_OFFER: u64 = 1_152_921_504_606_846_976;
+
 // ---- rows and their duals
 
 /// The greatest multiplier of a row, and the greatest denominator of multipliers.
 pub const MOST_MULTIPLIER: u64 = 4_294_967_296;
+
+/// So many pieces, each with a factor of no more than the greatest volume, surely make a row whose sums fit. A row of
+/// one piece for each crude and each vessel of a plant has far fewer.
+pub const MOST_PIECES: usize = 64;
 
 /// The most rows that a leaf names.
 pub const MOST_ROWS: u32 = 512;

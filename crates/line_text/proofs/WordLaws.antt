@@ -84,3 +84,7 @@ line_of-unbroken (word ∷ words) each = is_free-append 10 word (spaced words) e
 -- so the first line of a text of lines is found again
 pub text_of-first_line : (words : List (List ℕ)) (rest : List ℕ) → AreWords words → parts_at 10 (line_of words ++ 10 ∷ rest) ≡ Some (line_of words, rest)
 text_of-first_line words rest each = parts_at-append 10 (line_of words) rest (line_of-unbroken words each)
+
+-- of a word that is written out both tests compute
+pub literal : (word : List ℕ) → is_free 32 word ≡ true → is_free 10 word ≡ true → IsWord word
+literal word unspaced unbroken = record { unspaced = unspaced; unbroken = unbroken }

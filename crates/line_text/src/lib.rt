@@ -22,10 +22,10 @@ mod words;
 
 pub use decimal::{decimal_laws, read_decimal, read_signed};
 pub use lines::Lines;
-pub use name::{LONGEST_NAME, is_name};
+pub use name::is_name;
 pub use printing::{
-    keep_whole, push_decimal, push_marked, push_number, push_signed, push_signed_number, push_text,
-    push_word,
+    keep_whole, push_count, push_decimal, push_marked, push_number, push_signed,
+    push_signed_number, push_text, push_word,
 };
 pub use words::{Words, read_before, split_at_mark};
 

@@ -2,8 +2,7 @@ ghost use Rattle.std.specs.Prelude.{◌≡◌};
 ghost use Rattle.std.specs.List.{list_all};
 ghost use Rattle.line_text.specs.Name.{is_name, is_name_byte};
 
-/// The most bytes that a name has.
-pub const LONGEST_NAME: usize = 32;
+use limits::LONGEST_NAME;
 
 fn is_name_byte(byte: u8) -> bool
     ensures { result ≡ is_name_byte byte }

@@ -1,5 +1,6 @@
-ghost use Rattle.std.specs.Prelude.{◌≡◌, ◌∷◌, ◌++◌, OnOk, OnErr, decimal, take};
+ghost use Rattle.std.specs.Prelude.{◌≡◌, [], ◌∷◌, ◌++◌, OnOk, OnErr, decimal, take};
 ghost use Rattle.std.specs.Fmt.{signed_decimal};
+ghost use Rattle.line_text.specs.Words.{line_of};
 
 use itoa::Buffer;
 use std::alloc::AllocError;
@@ -82,5 +83,27 @@ pub fn push_signed_number(out: &mut Vec<u8>, number: i64) -> Result<(), AllocErr
     let length = out.len();
     push_text(out, b" ")?;
     let written = push_signed(out, number);
+    keep_whole(out, length, written)
+}
+
+/// Writes a blank, the digits of the number and the end of a line at the end.
+fn push_last_number(out: &mut Vec<u8>, number: u64) -> Result<(), AllocError>
+    ensures ok { OnOk result (out.new.items ≡ out.old.items ++ (32 ∷ decimal number ++ 10 ∷ [])) }
+    ensures err { OnErr result (out.new.items ≡ out.old.items) }
+{
+    let length = out.len();
+    push_number(out, number)?;
+    let written = push_text(out, b"\n");
+    keep_whole(out, length, written)
+}
+
+/// Writes a line of the word and the count at the end.
+pub fn push_count(out: &mut Vec<u8>, word: &[u8], count: u64) -> Result<(), AllocError>
+    ensures ok { OnOk result (out.new.items ≡ out.old.items ++ (line_of (word.now ∷ decimal count ∷ []) ++ 10 ∷ [])) }
+    ensures err { OnErr result (out.new.items ≡ out.old.items) }
+{
+    let length = out.len();
+    push_text(out, word)?;
+    let written = push_last_number(out, count);
     keep_whole(out, length, written)
 }

@@ -1,4 +1,5 @@
 pub mod Bounds
 pub mod Columns
+pub mod Listed
 pub mod Points
 pub mod Rows

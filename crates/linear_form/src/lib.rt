@@ -9,7 +9,7 @@
 //! columns are numbered: each has its own place below their count, and each place its column.
 //!
 //! Begin with `column` and `specs/Columns`, then `row` and `ranges`. What a point of whole numbers is, and
-//! when it meets rows and ranges, is defined in `specs/Points`.
+//! when it meets rows and ranges, is defined in `specs/Points`. `specs/Listed` lists the columns slot by slot.
 #![tactic(auto)]
 
 mod column;

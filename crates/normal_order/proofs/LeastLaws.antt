@@ -6,8 +6,9 @@ use Rattle.std.proofs.lemmas.Bool.{cases_Bool, cases_eq, cases_lt, eq-eqb, ne_eq
 use Rattle.std.proofs.lemmas.Bool.Decides.{nat_tests}
 use Rattle.std.proofs.lemmas.List.{map-append}
 use Rattle.std.proofs.lemmas.List.Elements.{All-head, All-tail, All-nil, All-cons, filter-append}
-use Rattle.std.proofs.lemmas.List.{get_or_append_left, length-append, append-nil}
+use Rattle.std.proofs.lemmas.List.{append-nil}
 use Rattle.std.proofs.lemmas.List.Sorted.{All-permutation}
+use Rattle.item_lists.proofs.ListLaws.{All-front}
 use Rattle.slot_words.proofs.ChainLaws.{same_entries}
 use Rattle.plant_model.specs.declared.parts.Parts.{Parts}
 use Rattle.plant_model.specs.Parts.{op_count_of}
@@ -157,11 +158,6 @@ never_alone parts a =
       | inl apart ↦ absurd ((apart_from_independent parts a a apart).different refl)
       | inr never ↦ never
     ]
-
-All-front : (P : Timed → Type 0) (front back : List Timed) → All P (front ++ back) → All P front
-All-front P front back all k d within =
-    let longer = length-append front back in
-    subst P (get_or_append_left front back d k within) (all k d (omega arith))
 
 less_cannot_come : (parts : Parts) (s t : Timed) (rest later : List Timed) → AreKnown parts (s ∷ rest) → t.op < op_count_of parts →
     IsNormalWord parts (s ∷ rest) →

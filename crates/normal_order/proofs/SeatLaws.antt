@@ -15,8 +15,8 @@ use Rattle.replay_core.specs.declared.timed.Timed.{Timed}
 use Rattle.slot_automaton.specs.Independence.{IsIndependent}
 use Rattle.slot_automaton.specs.Normal.{IsNormal}
 use Rattle.slot_automaton.specs.Blocked.{next_blocked, blocked_after}
-use Rattle.slot_automaton.proofs.BitLemmas.{set_next}
 use Rattle.slot_automaton.proofs.WordLemmas.{empty_is_normal, parts_are_normal, normal_grows, blocked_grow}
+use Rattle.slot_automaton.proofs.MaskLaws.{set_next}
 use Rattle.overlap_graph.specs.Independence.{independence_of}
 use Rattle.overlap_graph.proofs.SetLaws.{none_in_empty}
 use Rattle.overlap_graph.proofs.GraphLaws.{independent_sets}

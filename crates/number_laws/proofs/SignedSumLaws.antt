@@ -1,9 +1,12 @@
 -- Sums of whole numbers of either sign.
-use Rattle.std.proofs.Common.{◌≡◌, ℕ, zero, suc, ◌+◌, ◌*◌, ◌<◌, ◌≤◌, List, [], ◌∷◌, ◌++◌, length, take, get_or, ℤ, pos, negsuc, neg_ℤ, ◌+ℤ◌, ◌-ℤ◌, ◌*ℤ◌, ◌≤ℤ◌, ap, sym, ◌∙◌, refl, inl, inr, arith, unsigned_abs}
+use Rattle.std.proofs.Common.{◌≡◌, ℕ, zero, suc, ◌+◌, ◌*◌, ◌<◌, ◌≤◌, List, [], ◌∷◌, ◌++◌, map, length, take, get_or, ℤ, pos, negsuc, neg_ℤ, ◌+ℤ◌, ◌-ℤ◌, ◌*ℤ◌, ◌≤ℤ◌, ap, sym, ◌∙◌, refl, inl, inr, arith, unsigned_abs}
 use Rattle.std.proofs.Math.IntN.{zero-*ℤ, *ℤ_comm}
 use Rattle.std.proofs.lemmas.Int.{ints}
 use Rattle.std.proofs.lemmas.Bool.{cases_eq}
 use Rattle.std.proofs.lemmas.List.{take_more}
+use Rattle.std.proofs.lemmas.List.FromFn.{map-range_with_len_more}
+use Rattle.std.specs.List.{range_with_len}
+use Rattle.number_laws.specs.Sums.{sum_below}
 use Rattle.number_laws.specs.SignedSums.{total_below, total_by, total_by_pairs}
 use Rattle.number_laws.proofs.ProductLaws.{product-sum, sum-product}
 
@@ -120,6 +123,15 @@ pub total_by-same : {X : Type 0} (f g : X → ℤ) (xs : List X) → ((x : X) �
 total_by-same f g [] same = refl
 total_by-same f g (x ∷ xs) same = let rest = total_by-same f g xs same in let first = same x in cc
 
+-- no term counts
+pub total_by-zeros : {X : Type 0} (f : X → ℤ) (xs : List X) → total_by (λ x. pos 0 *ℤ f x) xs ≡ pos 0
+total_by-zeros f [] = refl
+total_by-zeros f (x ∷ xs) = let first = zero-*ℤ (f x) in let rest = total_by-zeros f xs in omega (arith, ints, first, rest)
+
+pub total_by-sum : {X : Type 0} (f g : X → ℤ) (xs : List X) → total_by (λ x. f x +ℤ g x) xs ≡ total_by f xs +ℤ total_by g xs
+total_by-sum f g [] = refl
+total_by-sum f g (x ∷ xs) = let rest = total_by-sum f g xs in omega (arith, ints, rest)
+
 pub total_by-scaled : {X : Type 0} (a : ℤ) (f : X → ℤ) (xs : List X) → total_by (λ x. a *ℤ f x) xs ≡ a *ℤ total_by f xs
 total_by-scaled a f [] = sym (*ℤ_comm a (pos 0) ∙ zero-*ℤ a)
 total_by-scaled a f (x ∷ xs) =
@@ -152,3 +164,18 @@ total_by_pairs-scaled a f (x ∷ xs) (y ∷ ys) =
     let rest = total_by_pairs-scaled a f xs ys in
     let parts = sum-product (f x y) (total_by_pairs f xs ys) a in
     cc
+
+-- ---- of natural numbers, and of items made of the numbers below a limit
+
+pub total_below-pos : (n : ℕ) (f : ℕ → ℕ) → total_below n (λ k. pos (f k)) ≡ pos (sum_below n f)
+total_below-pos zero f = refl
+total_below-pos (suc n) f = let first = total_below-pos n f in omega (arith, ints, first)
+
+pub total_by-range : {X : Type 0} (f : X → ℤ) (g : ℕ → X) (n : ℕ) → total_by f (map g (range_with_len 0 n)) ≡ total_below n (λ k. f (g k))
+total_by-range f g zero = refl
+total_by-range f g (suc n) =
+    let one : n + 1 ≡ suc n = omega arith in
+    let more = ap (λ (m : ℕ). total_by f (map g (range_with_len 0 m))) (sym one) ∙ ap (total_by f) (map-range_with_len_more g 0 n n (omega arith)) in
+    let parts = total_by-append f (map g (range_with_len 0 n)) (g n ∷ []) in
+    let first = total_by-range f g n in
+    omega (arith, ints, more, parts, first)

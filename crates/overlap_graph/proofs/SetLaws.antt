@@ -4,7 +4,7 @@ use Rattle.std.specs.Prelude.{◌↔◌, IsBitSet, bit_and, if◌then◌else◌}
 use Rattle.std.specs.Int.{bit_at}
 use Rattle.std.proofs.lemmas.Bool.{cases_Bool, cases_lt, cases_eq, eqb-true, eq-eqb}
 use Rattle.std.proofs.lemmas.Nat.Bits.{bit_at-lt, bit_at-zero, bit_at_and, bit_at-pow_same, bit_at-pow_other, same_from_bits}
-use Rattle.slot_automaton.proofs.BitLemmas.{set_or, set_and, set_from_one, one_from_set}
+use Rattle.number_laws.proofs.BitLaws.{set_from_one, one_from_set, set_and, set_or}
 use Rattle.overlap_graph.specs.Sets.{set_of, with_member, is_within}
 
 -- ---- members

@@ -11,6 +11,7 @@ use Rattle.item_lists.proofs.FaultLaws.{first_of-front, nil_of_none}
 use Rattle.plant_model.specs.declared.parts.Parts.{Parts}
 use Rattle.plant_model.specs.declared.details.PlaceInfo.{PlaceInfo}
 use Rattle.plant_model.specs.Parts.{op_count_of, place_name_of, op_of, places_of, place_of, place_count_of, no_place}
+use Rattle.plant_model.proofs.PlaceLists.{length-places_of}
 use Rattle.replay_core.specs.declared.timed.Timed.{Timed}
 use Rattle.replay_core.specs.declared.order.Order.{Order}
 use Rattle.replay_core.specs.declared.broken.Broken.{Broken}
@@ -24,7 +25,6 @@ use Rattle.replay_core.specs.declared.outcome.ReplayFault.TheVariants.{Rule, Mem
 use Rattle.replay_core.proofs.RuleLaws.{is_in_range}
 use Rattle.replay_core.proofs.StateLaws.{state_after_push}
 use Rattle.replay_core.proofs.StepLaws.{step_faults_from-append}
-use Rattle.replay_core.proofs.PlaceLists.{length-per_place}
 use Rattle.plan_text.specs.Ledger.{head_lines, step_lines, step_lines_from, unit_lines, ledger_lines, ledger_line, place_words, TellsMargin, TellsStep, IsElsewhere, TellsEnd, holding_words, HasNoLedger, IsLedger}
 use Rattle.plan_text.specs.inside.Running.{ran, BreaksStep}
 
@@ -148,10 +148,6 @@ pub each_from-at : {X Y : Type 0} (each : ℕ → X → List Y) (index i : ℕ) 
 each_from-at each index i xs x within is =
     ap (λ rest. each_from each index rest) (drop_more xs i x within)
     ∙ ap (λ y. each index y ++ each_from each (index + 1) (drop (i + 1) xs)) (sym is)
-
-pub length-places_of : (parts : Parts) → length (places_of parts) ≡ place_count_of parts
-unfolding places_of
-length-places_of parts = length-per_place _ _ _ _ parts
 
 pub each_place-at : {Y : Type 0} (each : ℕ → PlaceInfo → List Y) (parts : Parts) (p : ℕ) → p < place_count_of parts →
     each_from each p (drop p (places_of parts)) ≡ each p (place_of parts p) ++ each_from each (p + 1) (drop (p + 1) (places_of parts))

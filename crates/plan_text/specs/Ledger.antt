@@ -103,8 +103,8 @@ pub record IsElsewhere (parts : Parts) (p : ℕ) (t : Timed) : Type 0 where
 abbrev pub ledger_line : Parts → List Timed → ℕ → List (List ℕ)
 ledger_line parts plan k = slice_index_or (ledger_lines parts plan) k []
 
--- where no later operation touches its source, the third line of an operation, which begins with `from`, tells what that
--- place holds once the whole plan has run; likewise its fourth line, `to`, of its destination
+-- where no later operation touches its source, the third line of an operation, which begins with `from`, tells what
+-- that place holds once the whole plan has run; likewise its fourth line, `to`, of its destination
 pub record TellsEnd (parts : Parts) (before : List Timed) (t : Timed) (later : List Timed) : Type 0 where
   pub source : All (IsElsewhere parts (op_of parts t.op).from) later →
       ledger_line parts (before ++ t ∷ later) (3 + 4 * length before + 2)

@@ -11,7 +11,7 @@ ghost use Rattle.plan_text.specs.inside.Running.{ran, BreaksStep};
 
 use crate::plan::write_step_line;
 use crude_amounts::Amounts;
-use line_text::{push_number, push_signed_number, push_text, push_word};
+use line_text::{push_count, push_number, push_signed_number, push_text, push_word};
 use plant_model::{PlaceKind, Plant};
 use replay_core::{Replay, ReplayFault, Timed};
 use std::alloc::{AllocError, Global};
@@ -26,15 +26,6 @@ fn write_margin(out: &mut Vec<u8>, margin: i64) -> Result<(), AllocError>
     push_text(out, b"\n")
 }
 
-/// Writes the line, behind this word, of a count.
-fn write_count(out: &mut Vec<u8>, word: &[u8], count: u64) -> Result<(), AllocError>
-    ensures { OnOk result (out.new.items ≡ out.old.items ++ (line_of (word.now ∷ decimal count ∷ []) ++ 10 ∷ [])) }
-{
-    push_text(out, word)?;
-    push_number(out, count)?;
-    push_text(out, b"\n")
-}
-
 /// Writes that the plan is legal, what it earns, and how many operations it has.
 #[tactic(auto, unfolding(crate::specs::Ledger::head_lines))]
 fn write_head(out: &mut Vec<u8>, margin: i64, count: u64) -> Result<(), AllocError>
@@ -42,7 +33,7 @@ fn write_head(out: &mut Vec<u8>, margin: i64, count: u64) -> Result<(), AllocErr
 {
     push_text(out, b"legal\n")?;
     write_margin(out, margin)?;
-    write_count(out, b"operations", count)
+    push_count(out, b"operations", count)
 }
 
 /// Writes the amount of each crude as a word.

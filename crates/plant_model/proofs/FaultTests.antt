@@ -1,10 +1,11 @@
 -- What the tests of the faults say where they hold.
-use Rattle.std.proofs.Common.{◌≡◌, ℕ, ◌<◌, zero, suc, Bool, true, ◌&&◌, List, [], ◌∷◌, length, get_or, arith}
+use Rattle.std.proofs.Common.{◌≡◌, ℕ, ◌<◌, true, ◌&&◌, List, length, get_or, arith}
 use Rattle.std.proofs.lemmas.Bool.{and_parts}
 use Rattle.std.proofs.lemmas.Bool.Decides.{nat_tests}
 use Rattle.std.proofs.lemmas.Int.{ints}
 use Rattle.std.specs.Prelude.{ℤ, pos, int_le, int_lt, ◌≤ℤ◌, ◌<ℤ◌, ◌==◌}
 use Rattle.std.specs.List.{list_all}
+use Rattle.item_lists.proofs.ListLaws.{each_passes}
 use Rattle.limits.specs.declared.TheConstants.{MOST_PROPERTY}
 use Rattle.plant_model.specs.declared.parts.Pair.{Pair}
 use Rattle.plant_model.specs.Faults.{is_within, is_range, is_window, are_limits}
@@ -29,11 +30,6 @@ range_is low high pair h =
     let p = and_parts (int_le low pair.lo && int_le pair.lo pair.hi) (int_le pair.hi high) h in
     let q = and_parts (int_le low pair.lo) (int_le pair.lo pair.hi) p.0 in
     record { from_low = le_is low pair.lo q.0; in_order = le_is pair.lo pair.hi q.1; to_high = le_is pair.hi high p.1 }
-
-pub each_passes : {X : Type 0} (test : X → Bool) (xs : List X) (i : ℕ) (d : X) → list_all test xs ≡ true → i < length xs → test (get_or xs i d) ≡ true
-each_passes test [] i d h within = absurd (omega arith)
-each_passes test (x ∷ xs) zero d h within = (and_parts (test x) (list_all test xs) h).0
-each_passes test (x ∷ xs) (suc i) d h within = each_passes test xs i d (and_parts (test x) (list_all test xs) h).1 (omega arith)
 
 pub within_all : (count : ℕ) (high : ℤ) (numbers : List ℤ) → length numbers ≡ count → list_all (is_within (pos 0) high) numbers ≡ true
     → AreWithin count high numbers

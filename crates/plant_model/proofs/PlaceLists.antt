@@ -1,12 +1,12 @@
 -- What the lists that go over all places have at the number of a place.
+use Rattle.std.specs.Prelude.{ℤ, pos, negsuc, ◌≤ℤ◌}
 use Rattle.std.proofs.Common.{refl, Some, None, ◌≡◌, ◌∙◌, sym, ap, ℕ, ◌-◌, ◌<◌, ◌≤◌, List, [], ◌++◌, map, length, get_or, arith, length-append, append_assoc, subst}
 use Rattle.std.proofs.lemmas.List.{get_or-map, get_or_append_left, get_or-append_right, length-map}
 use Rattle.std.proofs.lemmas.Int.{ints}
 use Rattle.std.proofs.lemmas.Option.{slice_get-get_or, slice_get_past}
 use Rattle.std.specs.List.{slice_get}
-use Rattle.plant_model.specs.declared.details.PlaceInfo.{PlaceInfo}
-use Rattle.std.specs.Prelude.{ℤ, pos, negsuc, ◌≤ℤ◌}
 use Rattle.limits.specs.declared.TheConstants.{MOST_BERTHS, MOST_DEMURRAGE, MOST_SLOTS, MOST_VOLUME}
+use Rattle.plant_model.specs.declared.details.PlaceInfo.{PlaceInfo}
 use Rattle.plant_model.specs.declared.parts.Pair.{Pair}
 use Rattle.plant_model.specs.declared.parts.VesselPart.{VesselPart}
 use Rattle.plant_model.specs.declared.parts.TankPart.{TankPart}
@@ -44,6 +44,15 @@ pub length-per_place : {X : Type 0} (of_vessel : VesselPart → X) (of_storage o
     → length (per_place of_vessel of_storage of_charging of_unit parts) ≡ place_count_of parts
 unfolding place_count_of
 length-per_place of_vessel of_storage of_charging of_unit parts = simp (length-append, length-map)
+
+pub length-places_of : (parts : Parts) → length (places_of parts) ≡ place_count_of parts
+unfolding places_of
+length-places_of parts = length-per_place _ _ _ _ parts
+
+-- vessels are places
+pub vessels-few : (parts : Parts) → length parts.vessels ≤ place_count_of parts
+unfolding place_count_of
+vessels-few parts = omega arith
 
 -- one section after another
 pub in_a_row : {X : Type 0} (a b c d : List X) → a ++ b ++ c ++ d ≡ a ++ (b ++ (c ++ d))

@@ -19,6 +19,7 @@ use Rattle.plant_model.specs.declared.place.Section.{Section}
 use Rattle.plant_model.specs.declared.place.Section.TheVariants.{Properties, Crudes, Vessels, Storage, Charging, Units, Operations}
 use Rattle.plant_model.specs.declared.details.PlaceInfo.{PlaceInfo}
 use Rattle.plant_model.specs.declared.details.OpKind.TheVariants.{Charge}
+use Rattle.plant_model.specs.declared.details.PlaceKind.TheVariants.{Vessel as VesselKind, Storage as StorageKind, Charging as ChargingKind, Unit as UnitKind}
 use Rattle.plant_model.specs.Parts.{natural, horizon_of, crude_count_of, property_count_of, place_count_of, op_count_of, margin_of, property_of, per_place, places_of, place_of, no_place, place_names_of, place_name_of, place_amounts_of, initial_amounts_of, op_of, limit_of, crude_names_of, crude_name_of, property_name_of, op_names_of, op_name_of, position_of, vessel_info, storage_info, charging_info, unit_info}
 use Rattle.plant_model.specs.Faults.{total_of, all_name_faults, all_repeat_faults, name_faults, names_beside, names_before, repeat_faults, IsSound}
 use Rattle.plant_model.specs.Sound.{IsRange, HoldsCrude, SoundPlace, SoundAmounts, SoundNames, SoundPlant}
@@ -164,6 +165,16 @@ charging_at parts i within = (
 unit_at : (parts : Parts) (i : ℕ) → i < length parts.units → place_of parts (unit_start parts + i) ≡ unit_info (get_or parts.units i no_unit)
 unfolding place_of places_of
 unit_at parts i within = per_place-unit vessel_info storage_info charging_info unit_info parts i no_place within
+
+-- vessels come first
+pub vessels_come_first : (parts : Parts) (p : ℕ) → p < place_count_of parts → (place_of parts p).kind ≡ VesselKind → p < length parts.vessels
+vessels_come_first parts =
+    let kind_of = λ (info : PlaceInfo). info.kind in
+    by_section parts (λ p. (place_of parts p).kind ≡ VesselKind → p < length parts.vessels)
+    (λ i within is. within)
+    (λ i within is. (let same : StorageKind ≡ VesselKind = sym (ap kind_of (storage_at parts i within).0) ∙ is in cc))
+    (λ i within is. (let same : ChargingKind ≡ VesselKind = sym (ap kind_of (charging_at parts i within).0) ∙ is in cc))
+    (λ i within is. (let same : UnitKind ≡ VesselKind = sym (ap kind_of (unit_at parts i within)) ∙ is in cc))
 
 vessel_name_at : (parts : Parts) (i : ℕ) → i < length parts.vessels → place_name_of parts i ≡ (get_or parts.vessels i no_vessel).name
 unfolding place_name_of place_names_of

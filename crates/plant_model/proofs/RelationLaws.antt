@@ -1,13 +1,16 @@
 -- Laws of the relations between two operations.
-use Rattle.std.proofs.Common.{◌≡◌, sym, ap, refl, ℕ, Bool, true, false, not, ◌&&◌, ◌||◌, arith}
+use Rattle.std.proofs.Common.{◌≡◌, sym, ap, refl, ℕ, Bool, true, false, not, ◌&&◌, ◌||◌, arith, ◌∙◌}
 use Rattle.std.proofs.lemmas.Bool.{or_parts}
 use Rattle.std.proofs.lemmas.Bool.Decides.{nat_tests}
 use Rattle.std.specs.Prelude.{◌≢◌, ◌==◌}
 use Rattle.plant_model.specs.declared.parts.Parts.{Parts}
 use Rattle.plant_model.specs.declared.details.OpKind.{OpKind}
-use Rattle.plant_model.specs.declared.details.OpKind.TheVariants.{Unload, Charge}
+use Rattle.plant_model.specs.declared.details.OpKind.TheVariants.{Unload, Charge, Transfer}
 use Rattle.plant_model.specs.Parts.{op_of, place_of}
 use Rattle.plant_model.specs.Relations.{is_unload, is_charge, share_berth, one_feeds_other, both_charge_from_one_tank, both_charge_one_unit, refused_at_once_of, ordered_of, independent_of, AreApart}
+use Rattle.plant_model.specs.declared.details.PlaceKind.{PlaceKind}
+use Rattle.plant_model.specs.declared.details.PlaceKind.TheVariants.{Vessel, Storage, Charging}
+use Rattle.plant_model.specs.Sound.{IsRoute}
 
 equal_symmetric : (a b : ℕ) → (a == b) ≡ (b == a)
 equal_symmetric a b = grind (arith, nat_tests)
@@ -100,3 +103,9 @@ apart_from_independent parts v w independent =
 pub apart_from_unordered : (parts : Parts) (v w : ℕ) → ordered_of parts v w ≡ false → AreApart parts v w
 unfolding independent_of
 apart_from_unordered parts v w unordered = apart_from_independent parts v w (rw unordered refl)
+
+-- what draws from a charging tank is a charge
+pub charge-from : (kind : OpKind) (from to : PlaceKind) → IsRoute kind from to → from ≡ Charging → is_charge kind ≡ true
+charge-from Unload from to route is = (let same : Vessel ≡ Charging = sym route.0 ∙ is in cc)
+charge-from Transfer from to route is = (let same : Storage ≡ Charging = sym route.0 ∙ is in cc)
+charge-from Charge from to route is = refl

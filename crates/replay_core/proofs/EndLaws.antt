@@ -1,28 +1,24 @@
 -- Rules that are asked place by place, and operations that are asked one after the other, in loops.
-use Rattle.std.proofs.Common.{◌≡◌, ℕ, ◌+◌, ◌<◌, ◌≤◌, Some, None, List, [], ◌∷◌, ◌++◌, length, get_or, drop, take, refl, sym, ap, ◌∙◌, append_assoc, arith}
+use Rattle.std.proofs.Common.{◌≡◌, ℕ, ◌+◌, ◌<◌, ◌≤◌, Some, None, List, [], ◌∷◌, ◌++◌, length, get_or, drop, take, refl, sym, ap, ◌∙◌, append_assoc, arith, Bool}
 use Rattle.std.proofs.lemmas.List.{get_or_default, drop_more, drop_all, take_more}
 use Rattle.item_lists.specs.Faults.{first_of, unless, each_from}
 use Rattle.item_lists.proofs.FaultLaws.{first_of-front, first_of-back, each_from-next, each_from-stop, each_from-end}
 use Rattle.plant_model.specs.declared.parts.Parts.{Parts}
 use Rattle.plant_model.specs.declared.details.PlaceInfo.{PlaceInfo}
 use Rattle.plant_model.specs.Parts.{no_place, places_of, place_of, place_count_of}
+use Rattle.plant_model.proofs.PlaceLists.{length-places_of}
 use Rattle.replay_core.specs.declared.timed.Timed.{Timed}
 use Rattle.replay_core.specs.declared.order.Order.{Order}
 use Rattle.replay_core.specs.declared.broken.Broken.{Broken}
 use Rattle.replay_core.specs.Legal.{broken, op_faults, step_faults_from, faults_at_places}
 use Rattle.replay_core.specs.declared.end_rules.EndRule.{EndRule}
 use Rattle.replay_core.specs.inside.EndRules.{number_of, holds_at}
-use Rattle.replay_core.proofs.PlaceLists.{length-per_place}
 
 -- ---- places
 
 -- what stands from place p on
 pub rest_faults : (ℕ → PlaceInfo → List Broken) → Parts → ℕ → List Broken
 rest_faults faults parts p = each_from faults p (drop p (places_of parts))
-
-length-places_of : (parts : Parts) → length (places_of parts) ≡ place_count_of parts
-unfolding places_of
-length-places_of parts = length-per_place _ _ _ _ parts
 
 place-read : (parts : Parts) (p : ℕ) → p < place_count_of parts → place_of parts p ≡ get_or (places_of parts) p (place_of parts p)
 unfolding place_of
@@ -57,6 +53,14 @@ pub faults_of-is : (parts : Parts) (steps : List Timed) (rule : EndRule) (p : �
     ≡ unless (holds_at parts steps rule p (place_of parts p)) (broken (number_of rule) p)
 unfolding faults_of
 faults_of-is parts steps rule p = refl
+
+-- likewise by what was asked of the place, and by the numbers that were told
+pub faults_of-seen : (parts : Parts) (steps : List Timed) (rule : EndRule) (p : ℕ) (holds : Bool) (number place : ℕ) →
+    holds ≡ holds_at parts steps rule p (place_of parts p) → number ≡ number_of rule → place ≡ p →
+    faults_of parts steps rule p (place_of parts p) ≡ unless holds (broken number place)
+faults_of-seen parts steps rule p holds number place asked numbered told =
+    faults_of-is parts steps rule p ∙ ap (λ (b : Bool). unless b (broken (number_of rule) p)) (sym asked)
+    ∙ ap (λ (n : ℕ). unless holds (broken n p)) (sym numbered) ∙ ap (λ (n : ℕ). unless holds (broken number n)) (sym told)
 
 -- ---- operations
 

@@ -1,5 +1,5 @@
 -- Laws of margins: one more operation, and bounds.
-use Rattle.std.proofs.Common.{◌≡◌, ℕ, zero, suc, ◌+◌, ◌*◌, ◌≤◌, ℤ, pos, negsuc, neg_ℤ, ◌+ℤ◌, ◌*ℤ◌, ◌≤ℤ◌, Bool, true, false, if◌then◌else◌, List, [], ◌∷◌, ◌++◌, map, length, get_or, sum, ap, ◌∙◌, append_assoc, arith}
+use Rattle.std.proofs.Common.{◌≡◌, ℕ, suc, ◌+◌, ◌*◌, ◌≤◌, ℤ, pos, negsuc, neg_ℤ, ◌+ℤ◌, ◌*ℤ◌, ◌≤ℤ◌, Bool, true, false, if◌then◌else◌, List, [], ◌∷◌, ◌++◌, map, length, get_or, sum, ap, ◌∙◌, append_assoc, arith}
 use Rattle.std.proofs.lemmas.Int.{ints}
 use Rattle.std.proofs.lemmas.List.{append-nil, length-map, length_push}
 use Rattle.std.proofs.lemmas.List.Sums.{sum_by_push}
@@ -9,6 +9,7 @@ use Rattle.crude_amounts.proofs.DrawLaws.{sum-cons}
 use Rattle.number_laws.specs.Positive.{positive_part}
 use Rattle.number_laws.specs.Sums.{sum_below}
 use Rattle.number_laws.proofs.PositiveLaws.{positive_part-above, positive_part-times}
+use Rattle.number_laws.proofs.SumLaws.{sum_below-front}
 use Rattle.limits.specs.declared.TheConstants.{MOST_MARGIN, MOST_STEPS, MOST_VOLUME}
 use Rattle.plant_model.specs.declared.parts.Parts.{Parts}
 use Rattle.plant_model.specs.declared.parts.CrudePart.{CrudePart}
@@ -146,11 +147,6 @@ earns_within-most parts order steps sound can_run few =
     record { low = omega (arith, ints); high = omega (arith, ints) }
 
 -- ---- no legal plan earns more than its charges could if each drew what it liked
-
--- the first term of a sum apart
-sum_below-front : (n : ℕ) (f : ℕ → ℕ) → sum_below (suc n) f ≡ f 0 + sum_below n (λ c. f (suc c))
-sum_below-front zero f = omega arith
-sum_below-front (suc n) f = (let e = sum_below-front n f in omega arith)
 
 -- no part is more than the volume, so no crude that earns earns more than the volume would
 weighted_of-most : (volume : ℕ) (amounts : List ℕ) (weights : List ℤ) → sum amounts ≤ volume →

@@ -1,9 +1,10 @@
 -- Rules on the operations before one, asked of what is kept of them.
-use Rattle.std.proofs.Common.{IsTrue, ◌↔◌, ◌≡◌, ℕ, suc, ◌+◌, ◌-◌, ◌<◌, ◌≤◌, max, Bool, true, false, not, ◌&&◌, ◌||◌, eqb, leb, ltb, if◌then◌else◌, List, [], ◌∷◌, fold, length, get_or, refl, sym, ap, inl, inr, ◌∙◌, arith}
+use Rattle.std.proofs.Common.{IsTrue, ◌↔◌, ◌≡◌, ℕ, suc, ◌+◌, ◌-◌, ◌<◌, ◌≤◌, max, Bool, true, false, not, ◌&&◌, ◌||◌, eqb, leb, ltb, if◌then◌else◌, List, [], ◌∷◌, fold, length, get_or, refl, sym, ap, inl, inr, ◌∙◌, arith, ◌++◌}
 use Rattle.std.specs.List.{list_all}
 use Rattle.std.proofs.lemmas.List.Folds.{list_all-append}
 use Rattle.std.proofs.lemmas.Bool.{cases_Bool, and_parts, and_from, eqb-true, eq-eqb, leb-true, le-leb, ltb-true}
 use Rattle.std.proofs.lemmas.Bool.Decides.{nat_tests}
+use Rattle.std.proofs.lemmas.List.Sums.{fold_push}
 use Rattle.plant_model.specs.declared.parts.Parts.{Parts}
 use Rattle.plant_model.specs.Parts.{op_count_of}
 use Rattle.replay_core.specs.declared.timed.Timed.{Timed}
@@ -11,7 +12,7 @@ use Rattle.replay_core.specs.declared.order.Order.{Order}
 use Rattle.replay_core.specs.declared.latest.Relation.{Relation}
 use Rattle.replay_core.specs.Counts.{latest_of}
 use Rattle.replay_core.specs.inside.Latest.{AreLatest, relates, NoneIsLater}
-use Rattle.replay_core.specs.Rules.{last_start, is_known, lasts}
+use Rattle.replay_core.specs.Rules.{last_start, is_known, lasts, starts_in_order}
 use Rattle.replay_core.specs.Legal.{CanRun}
 use Rattle.replay_core.proofs.StepLaws.{along_accepted}
 use Rattle.replay_core.proofs.RuleLaws.{rules_kept, own_rules_kept}
@@ -50,7 +51,7 @@ latest-from chosen f (s ∷ steps) last minute =
     latest-from chosen f steps (if chosen s then max last (f s) else last) minute
     ∙ latest-step (chosen s) last (f s) minute (list_all (λ (r : Timed). not (chosen r) || leb (f r) minute) steps)
 
-latest-below : (chosen : Timed → Bool) (f : Timed → ℕ) (steps : List Timed) (minute : ℕ) → leb (latest_of chosen f steps) minute
+pub latest-below : (chosen : Timed → Bool) (f : Timed → ℕ) (steps : List Timed) (minute : ℕ) → leb (latest_of chosen f steps) minute
     ≡ list_all (λ (s : Timed). not (chosen s) || leb (f s) minute) steps
 latest-below chosen f steps minute =
     latest-from chosen f steps 0 minute ∙ ap (λ (b : Bool). b && list_all (λ (s : Timed). not (chosen s) || leb (f s) minute) steps)
@@ -162,3 +163,15 @@ pub last_start-none : (steps : List Timed) → length steps ≤ 0 → last_start
 unfolding last_start
 last_start-none [] none = refl
 last_start-none (s ∷ steps) none = absurd (omega arith)
+
+pub last_start_push : (before : List Timed) (t : Timed) → last_start (before ++ t ∷ []) ≡ t.start
+unfolding last_start
+last_start_push before t = fold_push (λ _ (s : Timed). s.start) 0 before t
+
+pub starts_in_order-true : (before : List Timed) (t : Timed) → starts_in_order before t ≡ true → last_start before ≤ t.start
+unfolding starts_in_order
+starts_in_order-true before t holds = leb-true (last_start before) t.start holds
+
+pub starts_in_order-from : (before : List Timed) (t : Timed) → last_start before ≤ t.start → starts_in_order before t ≡ true
+unfolding starts_in_order
+starts_in_order-from before t below = le-leb (last_start before) t.start below

@@ -1,11 +1,11 @@
 -- Lists with one entry a place, entry by entry.
-use Rattle.std.proofs.Common.{◌≡◌, ℕ, zero, suc, ◌<◌, List, [], ◌∷◌, ◌++◌, map, length, get_or, arith}
-use Rattle.std.proofs.lemmas.List.{length-append, length-map}
+use Rattle.std.proofs.Common.{ℕ, zero, suc, ◌<◌, List, [], ◌∷◌, ◌++◌, map, length, get_or, arith}
 use Rattle.plant_model.specs.declared.parts.VesselPart.{VesselPart}
 use Rattle.plant_model.specs.declared.parts.TankPart.{TankPart}
 use Rattle.plant_model.specs.declared.parts.UnitPart.{UnitPart}
 use Rattle.plant_model.specs.declared.parts.Parts.{Parts}
 use Rattle.plant_model.specs.Parts.{per_place, place_count_of}
+use Rattle.plant_model.proofs.PlaceLists.{length-per_place}
 
 -- two lists of which the entries are related, one by one
 abbrev AreRelated : {X Y : Type 0} → (X → Y → Type 0) → List X → List Y → Type 0
@@ -32,11 +32,6 @@ related-at R [] ys i d e related within = absurd (omega arith)
 related-at R (x ∷ xs) [] i d e related within = absurd related
 related-at R (x ∷ xs) (y ∷ ys) zero d e related within = related.0
 related-at R (x ∷ xs) (y ∷ ys) (suc i) d e related within = related-at R xs ys i d e related.1 (omega arith)
-
-pub length-per_place : {X : Type 0} (of_vessel : VesselPart → X) (of_storage of_charging : TankPart → X) (of_unit : UnitPart → X) (parts : Parts) →
-    length (per_place of_vessel of_storage of_charging of_unit parts) ≡ place_count_of parts
-unfolding place_count_of
-length-per_place of_vessel of_storage of_charging of_unit parts = simp (length-append, length-map)
 
 -- what is so of each vessel, tank and unit is so at each place
 pub at_each_place : {X Y : Type 0} (R : X → Y → Type 0) (parts : Parts) (v : VesselPart → X) (s c : TankPart → X) (u : UnitPart → X) (v' : VesselPart → Y)

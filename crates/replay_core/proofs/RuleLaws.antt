@@ -131,35 +131,10 @@ pub record RunsSoundly (parts : Parts) (state : List (List ℕ)) (t : Timed) : T
   pub room : (is_unit (place_of parts (op_of parts t.op).to).kind ≡ true) ⊎
       (sum (held_of state (op_of parts t.op).to) + t.volume ≤ (place_of parts (op_of parts t.op).to).max)
 
-pub runs_soundly : (parts : Parts) (order : Order) (before : List Timed) (t : Timed) (at : ℕ) → SoundPlant parts → op_faults parts order before t at ≡ [] →
-    RunsSoundly parts (state_after parts before) t
-runs_soundly parts order before t at sound none =
-    let kept = rules_kept parts order before t at none in
-    let own = own_rules_kept parts t at kept.own in
-    let places = place_rules_kept parts before t at kept.places in
-    let known = known-below parts t own.known in
-    let op : SoundOp parts (op_of parts t.op) = sound.each_op t.op known in
-    let volume = volume-inside parts t own.volume in
-    let window = window-kept parts t own.window in
-    let horizon : horizon_of parts ≤ MOST_HORIZON = sound.horizon.1 in
-    let last : (op_of parts t.op).window.1 ≤ horizon_of parts = op.within_horizon in
-    let least : 1 ≤ (op_of parts t.op).volume.0 = op.volume.from_low in
-    let greatest : (op_of parts t.op).volume.1 ≤ MOST_VOLUME = op.volume.to_high in
-    let left = minimum-left parts (state_after parts before) t places.minimum in
-    record {
-      known = known;
-      sound = op;
-      lasts = lasts-below t own.lasts;
-      in_horizon = omega arith;
-      some = omega arith;
-      most = omega arith;
-      there = omega arith;
-      room = maximum-kept parts (state_after parts before) t places.maximum;
-    }
-
-pub is_in_range : (parts : Parts) (order : Order) (before : List Timed) (t : Timed) (at : ℕ) → op_faults parts order before t at ≡ [] → IsInRange parts t
-is_in_range parts order before t at none =
-    let own = own_rules_kept parts t at (rules_kept parts order before t at none).own in
+-- by its own rules alone
+pub in_range : (parts : Parts) (t : Timed) (at : ℕ) → own_faults parts t at ≡ [] → IsInRange parts t
+in_range parts t at none =
+    let own = own_rules_kept parts t at none in
     let window = window-kept parts t own.window in
     let volume = volume-inside parts t own.volume in
     record {
@@ -170,3 +145,35 @@ is_in_range parts order before t at none =
       least = volume.0;
       most = volume.1;
     }
+
+-- by its own rules and by those on the state, whatever the order
+pub sound_by_rules : (parts : Parts) (before : List Timed) (t : Timed) (at : ℕ) → SoundPlant parts → own_faults parts t at ≡ [] →
+    place_faults parts before t at ≡ [] → RunsSoundly parts (state_after parts before) t
+sound_by_rules parts before t at sound own place =
+    let range = in_range parts t at own in
+    let places = place_rules_kept parts before t at place in
+    let op : SoundOp parts (op_of parts t.op) = sound.each_op t.op range.known in
+    let horizon : horizon_of parts ≤ MOST_HORIZON = sound.horizon.1 in
+    let last : (op_of parts t.op).window.1 ≤ horizon_of parts = op.within_horizon in
+    let least : 1 ≤ (op_of parts t.op).volume.0 = op.volume.from_low in
+    let greatest : (op_of parts t.op).volume.1 ≤ MOST_VOLUME = op.volume.to_high in
+    let left = minimum-left parts (state_after parts before) t places.minimum in
+    record {
+      known = range.known;
+      sound = op;
+      lasts = range.lasts;
+      in_horizon = (let end = range.to_window in omega arith);
+      some = (let from = range.least in omega arith);
+      most = (let to = range.most in omega arith);
+      there = omega arith;
+      room = maximum-kept parts (state_after parts before) t places.maximum;
+    }
+
+pub runs_soundly : (parts : Parts) (order : Order) (before : List Timed) (t : Timed) (at : ℕ) → SoundPlant parts → op_faults parts order before t at ≡ [] →
+    RunsSoundly parts (state_after parts before) t
+runs_soundly parts order before t at sound none =
+    let kept = rules_kept parts order before t at none in
+    sound_by_rules parts before t at sound kept.own kept.places
+
+pub is_in_range : (parts : Parts) (order : Order) (before : List Timed) (t : Timed) (at : ℕ) → op_faults parts order before t at ≡ [] → IsInRange parts t
+is_in_range parts order before t at none = in_range parts t at (rules_kept parts order before t at none).own

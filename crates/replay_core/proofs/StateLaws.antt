@@ -16,6 +16,7 @@ use Rattle.plant_model.specs.declared.details.OpKind.TheVariants.{Unload, Transf
 use Rattle.plant_model.specs.declared.details.Op.{Op}
 use Rattle.plant_model.specs.Parts.{natural, vessel_info, storage_info, charging_info, unit_info, no_place, crude_count_of, place_count_of, places_of, place_of, place_amounts_of, initial_amounts_of, op_of}
 use Rattle.plant_model.specs.Sound.{HoldsCrude, IsRoute, SoundOp, SoundPlant}
+use Rattle.plant_model.proofs.PlaceLists.{length-per_place}
 use Rattle.replay_core.specs.declared.timed.Timed.{Timed}
 use Rattle.replay_core.specs.declared.order.Order.{Order}
 use Rattle.replay_core.specs.State.{initial_state, held_of, drawn_of, moved, after_step, state_after}
@@ -24,7 +25,7 @@ use Rattle.replay_core.specs.inside.Levels.{HoldsWithin}
 use Rattle.replay_core.specs.Legal.{CanRun}
 use Rattle.replay_core.proofs.StepLaws.{along_accepted}
 use Rattle.replay_core.proofs.RuleLaws.{RunsSoundly, runs_soundly}
-use Rattle.replay_core.proofs.PlaceLists.{length-per_place, at_each_place}
+use Rattle.replay_core.proofs.PlaceLists.{at_each_place}
 
 -- ---- kinds of places
 
@@ -213,7 +214,7 @@ after-target parts n state t holds runs =
     let same = ap sum is in
     (ap length is ∙ length-mix_of held drawn ∙ holds.crudes op.to sound.to_place, omega arith)
 
-after-other : (parts : Parts) (state : List (List ℕ)) (t : Timed) (p : ℕ) → p ≢ (op_of parts t.op).from → p ≢ (op_of parts t.op).to →
+pub after-other : (parts : Parts) (state : List (List ℕ)) (t : Timed) (p : ℕ) → p ≢ (op_of parts t.op).from → p ≢ (op_of parts t.op).to →
     held_of (after_step parts state t) p ≡ held_of state p
 unfolding after_step
 after-other parts state t p not_source not_target = moved-other state (op_of parts t.op).from (op_of parts t.op).to p (drawn_of parts state t) not_source

@@ -1,4 +1,5 @@
 pub mod State
+pub mod Steps
 pub mod Counts
 pub mod Rules
 pub mod Legal

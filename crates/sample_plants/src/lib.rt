@@ -154,11 +154,9 @@ pub struct Berthed {
     pub demurrage: i64,
 }
 
-/// The parts of a plant in which each vessel brings 4 volume units of crude `A`: `u1` may move 1 to 4 of the first
-/// one's from its arrival on to tank `S1`, at most two in a minute, `u2` those of the second one to `S2`, and so on to
-/// the ninth.
-pub fn unloading(alloc: Global, horizon: i64, berthed: &[Berthed]) -> Result<Parts, AllocError> {
-    let mut parts = Parts {
+/// Parts with nothing in them.
+fn no_parts(alloc: Global, horizon: i64) -> Parts {
+    Parts {
         horizon,
         properties: Items::new(alloc),
         crudes: Items::new(alloc),
@@ -167,7 +165,14 @@ pub fn unloading(alloc: Global, horizon: i64, berthed: &[Berthed]) -> Result<Par
         charging: Items::new(alloc),
         units: Items::new(alloc),
         operations: Items::new(alloc),
-    };
+    }
+}
+
+/// The parts of a plant in which each vessel brings 4 volume units of crude `A`: `u1` may move 1 to 4 of the first
+/// one's from its arrival on to tank `S1`, at most two in a minute, `u2` those of the second one to `S2`, and so on to
+/// the ninth.
+pub fn unloading(alloc: Global, horizon: i64, berthed: &[Berthed]) -> Result<Parts, AllocError> {
+    let mut parts = no_parts(alloc, horizon);
     let crude = one_charge().crude(alloc)?;
     parts.crudes.push(crude).map_err(|_| AllocError)?;
     let mut digit = b'1';
@@ -219,4 +224,138 @@ fn add_vessel(
         limits: Items::new(alloc),
     };
     parts.operations.push(operation).map_err(|_| AllocError)
+}
+
+/// A tank of two crudes that holds so much of each at first.
+fn blend_tank(
+    alloc: Global,
+    name_text: &str,
+    max: i64,
+    amounts: &[i64],
+) -> Result<TankPart, AllocError> {
+    Ok(TankPart {
+        name: name(alloc, name_text)?,
+        min: 0,
+        max,
+        amounts: Copies::new(alloc, amounts)?,
+        demand: Pair {
+            lo: 0,
+            hi: 1_000_000,
+        },
+    })
+}
+
+fn add_crudes(alloc: Global, parts: &mut Parts) -> Result<(), AllocError> {
+    for (crude, margin, sulphur) in [("A", 9, 100), ("B", 6, 600)] {
+        let crude = CrudePart {
+            name: name(alloc, crude)?,
+            margin,
+            properties: Copies::new(alloc, &[sulphur])?,
+        };
+        parts.crudes.push(crude).map_err(|_| AllocError)?;
+    }
+    Ok(())
+}
+
+fn add_vessels(alloc: Global, parts: &mut Parts) -> Result<(), AllocError> {
+    for (vessel, arrival, amounts) in [("V1", 0, [1_000_000, 0]), ("V2", 5760, [0, 1_000_000])] {
+        let vessel = VesselPart {
+            name: name(alloc, vessel)?,
+            arrival,
+            amounts: Copies::new(alloc, &amounts)?,
+            berth: 1,
+            demurrage: 0,
+        };
+        parts.vessels.push(vessel).map_err(|_| AllocError)?;
+    }
+    Ok(())
+}
+
+fn add_tanks(alloc: Global, parts: &mut Parts) -> Result<(), AllocError> {
+    for (tank, amounts) in [("S1", [250_000, 0]), ("S2", [0, 750_000])] {
+        let tank = blend_tank(alloc, tank, 2_000_000, &amounts)?;
+        parts.storage.push(tank).map_err(|_| AllocError)?;
+    }
+    for (tank, amounts) in [("C1", [500_000, 0]), ("C2", [0, 500_000])] {
+        let tank = blend_tank(alloc, tank, 1_000_000, &amounts)?;
+        parts.charging.push(tank).map_err(|_| AllocError)?;
+    }
+    Ok(())
+}
+
+/// An operation of up to a million volume units at up to 500,000 a day, and with a limit on sulphur where it has one.
+fn add_operation(
+    alloc: Global,
+    parts: &mut Parts,
+    route: [&str; 3],
+    from_minute: i64,
+    sulphur: Option<i64>,
+) -> Result<(), AllocError> {
+    let [operation, from, to] = route;
+    let mut limits = Items::new(alloc);
+    if let Some(most) = sulphur {
+        let limit = Pair { lo: 0, hi: most };
+        limits.push(limit).map_err(|_| AllocError)?;
+    }
+    let slowest = if sulphur.is_some() { 50_000 } else { 0 };
+    let operation = OperationPart {
+        name: name(alloc, operation)?,
+        from: name(alloc, from)?,
+        to: name(alloc, to)?,
+        rate: Pair {
+            lo: slowest,
+            hi: 500_000,
+        },
+        volume: Pair {
+            lo: 1,
+            hi: 1_000_000,
+        },
+        window: Pair {
+            lo: from_minute,
+            hi: 11_520,
+        },
+        limits,
+    };
+    parts.operations.push(operation).map_err(|_| AllocError)
+}
+
+fn add_operations(alloc: Global, parts: &mut Parts) -> Result<(), AllocError> {
+    for (route, from_minute, sulphur) in [
+        (["u1", "V1", "S1"], 0, None),
+        (["u2", "V2", "S2"], 5760, None),
+        (["t1", "S1", "C1"], 0, None),
+        (["t2", "S1", "C2"], 0, None),
+        (["t3", "S2", "C1"], 0, None),
+        (["t4", "S2", "C2"], 0, None),
+        (["c1", "C1", "CDU"], 0, Some(150)),
+        (["c2", "C2", "CDU"], 0, Some(700)),
+    ] {
+        add_operation(alloc, parts, route, from_minute, sulphur)?;
+    }
+    Ok(())
+}
+
+fn add_unit(alloc: Global, parts: &mut Parts) -> Result<(), AllocError> {
+    let unit = UnitPart {
+        name: name(alloc, "CDU")?,
+        continuous: true,
+        charges: Pair { lo: 2, hi: 8 },
+    };
+    parts.units.push(unit).map_err(|_| AllocError)
+}
+
+/// The parts of a plant of eight days: vessels `V1` and `V2` bring a million volume units each of crude `A`, which
+/// earns 9 and has little sulphur, and of `B`, which earns 6 and has much, to the storage tanks `S1` and `S2`; from
+/// both either charging tank, `C1` and `C2`, is filled, and from these a unit is charged at every minute, 2 to 8 times,
+/// from `C1` with at most 150 of sulphur and from `C2` with at most 700.
+pub fn two_vessels(alloc: Global) -> Result<Parts, AllocError> {
+    let mut parts = no_parts(alloc, 11_520);
+    let sulphur = name(alloc, "sulphur")?;
+    parts.properties.push(sulphur).map_err(|_| AllocError)?;
+    add_crudes(alloc, &mut parts)?;
+    add_vessels(alloc, &mut parts)?;
+    add_tanks(alloc, &mut parts)?;
+    add_unit(alloc, &mut parts)?;
+    add_operations(alloc, &mut parts)?;
+    Ok(parts)
 }

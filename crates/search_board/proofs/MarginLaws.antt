@@ -5,7 +5,8 @@ use mathlib.Core.Logic.{dite}
 use native.Mathlib.Decide.{dec_le}
 use Rattle.std.proofs.lemmas.Bool.{cond-true, cond-false}
 use Rattle.std.proofs.lemmas.Int.{ints}
-use Rattle.search_board.specs.Margins.{greater, IsAtMost, margin_in}
+use Rattle.number_laws.specs.Missing.{greater, IsAtMost}
+use Rattle.search_board.specs.Margins.{margin_in}
 
 -- a word that is not 0 holds a margin
 pub margin-in_some : (word : ℕ) → word ≢ 0 → margin_in word ≡ Some (pos word -ℤ pos 4611686018427387904)

@@ -3,18 +3,16 @@ use Rattle.std.specs.Prelude.{◌≡◌, ℕ, ℤ, ◌+◌, ◌-◌, ◌≤◌, 
 use Rattle.std.specs.Coded.{Coded, code_by, coded×, coded_ℕ, coded_ℤ, coded_list, coded_option}
 use mathlib.Core.Path.{refl}
 use Rattle.atomic_table.specs.Seated.{TableId, table_id_coded}
+use Rattle.limits.specs.declared.TheConstants.{MOST_SEATS}
 use Rattle.number_counts.specs.Counts.{HasEachBelow}
+use Rattle.number_laws.specs.Missing.{greater, IsAtMost}
 use Rattle.search_board.specs.declared.known.Known.{Known}
-use Rattle.search_board.specs.Margins.{greater, IsAtMost, margin_in}
+use Rattle.search_board.specs.Margins.{margin_in}
 
 -- which board it is, and its budget of tickets
 pub record BoardView : Type 0 where
   pub table : TableId
   pub budget : ℕ
-
--- how many seats there are at most
-abbrev pub most_seats : ℕ
-most_seats = 32
 
 -- a seat: its board; the tickets that it drew; the greatest margin that it offered; the greatest best that it saw; how
 -- often it looked; the number with which it was told that none is left, if it was; for how many seats it stands; and
@@ -39,7 +37,7 @@ first_seat board = record {
   looks = 0;
   told = None;
   stands = 1;
-  may = most_seats - 1;
+  may = MOST_SEATS - 1;
 }
 
 -- a seat that another has made: it has seen what that one has seen

@@ -53,10 +53,11 @@ impl Model for Board {
 
 impl Board {
     ghost use Rattle.std.specs.Prelude.{◌≡◌, ℕ, Err, ◌+◌, ◌-◌, ◌<◌, ◌≤◌, ◌∷◌, [], ◌++◌, IfOk, OnErr, MatchResult, length, None, Some, ⊤};
-    ghost use Rattle.limits.specs.declared.TheConstants.{MOST_NODES};
+    ghost use Rattle.limits.specs.declared.TheConstants.{MOST_NODES, MOST_SEATS};
     ghost use Rattle.number_counts.specs.Counts.{times};
-    ghost use Rattle.search_board.specs.Margins.{greater, IsAtMost, IsOffer};
-    ghost use Rattle.search_board.specs.Seats.{first_seat, seat_from, joined_seat, most_seats, IsClosing};
+    ghost use Rattle.search_board.specs.Margins.{IsOffer};
+    ghost use Rattle.number_laws.specs.Missing.{greater, IsAtMost};
+    ghost use Rattle.search_board.specs.Seats.{first_seat, seat_from, joined_seat, IsClosing};
 
     /// A board with this many tickets, and its first seat.
     pub fn new(alloc: Global, budget: u32) -> Result<(Board, Seat), AllocError>
@@ -182,7 +183,7 @@ impl Board {
     /// Closes the board with the seat into which all others were joined.
     pub fn close(self, last: Seat) -> Closed
         requires of { last.board ≡ self }
-        requires all { last.stands + last.may ≡ most_seats }
+        requires all { last.stands + last.may ≡ MOST_SEATS }
         ensures { IsClosing last result.tickets result.best }
     {
         let Board { table, budget } = self;

@@ -8,16 +8,18 @@ use Rattle.std.proofs.lemmas.Option.{none-some, same_Some}
 use Rattle.std.proofs.lemmas.Bool.{ltb-true, ltb-false}
 use Rattle.number_counts.specs.Counts.{times, HasEachBelow}
 use Rattle.number_counts.proofs.CountLaws.{one-same, one-other, times-append, each_below-next}
+use Rattle.number_laws.specs.Missing.{IsAtMost, greater}
+use Rattle.number_laws.proofs.MissingLaws.{IsAtMost-refl, IsAtMost-trans, IsGreaterOf-greater}
 use Rattle.work_chains.specs.NodeChains.{Nothing, NodeNote, AreNodeChains}
 use Rattle.work_chains.proofs.ChainLaws.{chains-take, chains-close, chains-divide}
 use Rattle.number_counts.proofs.Members.{among-last}
 use Rattle.search_core.specs.declared.note.CoreNote.{CoreNote}
 use Rattle.search_core.specs.declared.worker.Worker.{Worker}
 use Rattle.search_core.specs.Cores.{Core, fresh_worker, worker_at, with_worker, tickets_given, held_tickets, noted_tickets, nodes_of, waiting_nodes, noted_nodes, part_nodes, notes_by, node_note, task_in}
-use Rattle.search_core.specs.Events.{has_first, can_take, can_draw, can_close, taking, robbed, holding, drawing, dividing, better, node_in, ticket_in}
-use Rattle.search_core.specs.Good.{IsAtMost, spent_one, HasTickets, HasNodes, HasChains, IsGoodWorker, IsOffered, IsGood}
+use Rattle.search_core.specs.Events.{has_first, can_take, can_draw, can_close, taking, robbed, holding, drawing, dividing, node_in, ticket_in}
+use Rattle.search_core.specs.Good.{spent_one, HasTickets, HasNodes, HasChains, IsGoodWorker, IsOffered, IsGood}
 use Rattle.search_core.proofs.CoreLists.{some-is, none-is, not-is, and-is, or-is, if-cases, has-first, Measure, times-measure, length-measure, counted-set, counted-at, spent-set, flat-last, map-last, parts-append, notes-by-last, each-same, part-bound}
-use Rattle.search_core.proofs.Margins.{at-most-same, at-most-trans, better-is, better-both, offer-either}
+use Rattle.search_core.proofs.Margins.{better-both, offer-either}
 use Rattle.search_core.proofs.Keeping.{IsGoodApart, apart-of, good-of, changed, one-changes, same-tickets, assemble, others, here, there, still-offered, nodes-balanced, balance}
 
 -- all lists of chains without boxes grow alike
@@ -60,8 +62,8 @@ module _ (core : Core) (apart : IsGoodApart core) (w : ℕ) (known : w < length 
       ticket spent offered
 
   -- after an offer some worker has offered the best
-  pub offers : (m : ℤ) → IsOffered (with_worker (record core { best = better core.best m }) w (record old { offered = better old.offered m }))
-  offers m = let v : Worker = record old { offered = better old.offered m } in let best : Option ℤ = better core.best m in
+  pub offers : (m : ℤ) → IsOffered (with_worker (record core { best = greater core.best (Some m) }) w (record old { offered = greater old.offered (Some m) }))
+  offers m = let v : Worker = record old { offered = greater old.offered (Some m) } in let best : Option ℤ = greater core.best (Some m) in
       let long = length-set core.workers w v in let at = here core apart w known v core.counter best core.notes in ⊎_elim
       (λ (same : best ≡ core.best). ⊎_elim
       (λ none. inl (same ∙ none))
@@ -70,11 +72,11 @@ module _ (core : Core) (apart : IsGoodApart core) (w : ℕ) (known : w < length 
         omega arith,
         dite (ℕ_discrete by.0 w)
             (λ is. ap (λ (k : ℕ). (worker_at (changed core w v core.counter best core.notes) k).offered) is ∙ ap (λ (u : Worker). u.offered) at
-            ∙ ap (λ (o : Option ℤ). better o m) (ap (λ (k : ℕ). (worker_at core k).offered) (sym is) ∙ by.2))
+            ∙ ap (λ (o : Option ℤ). greater o (Some m)) (ap (λ (k : ℕ). (worker_at core k).offered) (sym is) ∙ by.2))
             (λ ne. ap (λ (u : Worker). u.offered) (there core apart w known v core.counter best core.notes by.0 ne) ∙ by.2 ∙ sym same),
       ))
       apart.best)
-      (λ (own : better old.offered m ≡ best). inr (w, omega arith, ap (λ (u : Worker). u.offered) at ∙ own))
+      (λ (own : greater old.offered (Some m) ≡ best). inr (w, omega arith, ap (λ (u : Worker). u.offered) at ∙ own))
       (offer-either core.best old.offered m mine.offered)
 
 module _ (core : Core) (good : IsGood core) (w : ℕ) (known : w < length core.workers) where
@@ -134,7 +136,7 @@ module _ (core : Core) (good : IsGood core) (w : ℕ) (known : w < length core.w
         full = is-good.full;
         spent = is-good.spent;
         offered = is-good.offered;
-        seen = at-most-same core.best;
+        seen = IsAtMost-refl core.best;
         cuts = is-good.cuts;
         chains = record { taken = is-good.chains.taken; handed = is-good.chains.handed; chains = is-good.chains.chains };
       }) refl refl refl)
@@ -154,9 +156,9 @@ module _ (core : Core) (good : IsGood core) (w : ℕ) (known : w < length core.w
 
   -- ---- an offer
 
-  pub offer-good : (m : ℤ) → IsGood (with_worker (record core { best = better core.best m }) w (record worker { offered = better worker.offered m }))
-  offer-good m = let v : Worker = record worker { offered = better worker.offered m } in let best : Option ℤ = better core.best m in
-      let b = better-is core.best m in
+  pub offer-good : (m : ℤ) → IsGood (with_worker (record core { best = greater core.best (Some m) }) w (record worker { offered = greater worker.offered (Some m) }))
+  offer-good m = let v : Worker = record worker { offered = greater worker.offered (Some m) } in let best : Option ℤ = greater core.best (Some m) in
+      let b = IsGreaterOf-greater core.best (Some m) in
       let new : Core = changed core w v core.counter best core.notes in let apart = apart-of core good in good-of new
       (assemble core apart w known v core.counter best core.notes
       (same-tickets core apart w known v best core.notes (λ n. refl) refl)
@@ -164,11 +166,11 @@ module _ (core : Core) (good : IsGood core) (w : ℕ) (known : w < length core.w
         full = is-good.full;
         spent = is-good.spent;
         offered = better-both worker.offered core.best m is-good.offered;
-        seen = at-most-trans _ _ _ is-good.seen b.old;
+        seen = IsAtMost-trans _ _ _ is-good.seen b.first;
         cuts = is-good.cuts;
         chains = record { taken = is-good.chains.taken; handed = is-good.chains.handed; chains = is-good.chains.chains };
       })
-      (others core apart w known v core.counter best core.notes (omega arith) (λ a le. at-most-trans _ _ _ le b.old)
+      (others core apart w known v core.counter best core.notes (omega arith) (λ a le. IsAtMost-trans _ _ _ le b.first)
       (λ k u ne h. record { taken = h.taken; handed = h.handed; chains = h.chains }))
       (offers core apart w known m))
       (nodes-balanced core new good.nodes (balance core w known v core.counter best core.notes (λ n. refl)) good.nodes.parents_first)

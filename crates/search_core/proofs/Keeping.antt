@@ -4,11 +4,12 @@ use mathlib.Core.Logic.{dite}
 use native.Mathlib.Decide.{ℕ_discrete}
 use Rattle.std.specs.Prelude.{Contains}
 use Rattle.std.specs.Option.{option_to_list}
+use Rattle.number_laws.specs.Missing.{IsAtMost}
 use Rattle.work_chains.specs.NodeChains.{AreNodeChains}
 use Rattle.search_core.specs.declared.note.CoreNote.{CoreNote}
 use Rattle.search_core.specs.declared.worker.Worker.{Worker}
 use Rattle.search_core.specs.Cores.{Core, fresh_worker, worker_at, with_worker, held_tickets, noted_tickets, nodes_of, waiting_nodes, noted_nodes, part_nodes, notes_by, task_in}
-use Rattle.search_core.specs.Good.{IsAtMost, spent_one, IsWithinLimits, HasTickets, HasNodes, HasChains, IsGoodWorker, IsOffered, IsGood}
+use Rattle.search_core.specs.Good.{spent_one, IsWithinLimits, HasTickets, HasNodes, HasChains, IsGoodWorker, IsOffered, IsGood}
 use Rattle.search_core.proofs.CoreLists.{Measure, times-measure, length-measure, counted-set, spent-set, each-same}
 
 -- all of a good core but its nodes, which a theft changes in two workers

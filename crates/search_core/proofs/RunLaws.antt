@@ -1,4 +1,5 @@
 -- What holds after all events that can come.
+use Rattle.std.specs.Prelude.{map, Result, Ok, Err, OnOk, OnErr, Contains, IsTrue}
 use Rattle.std.proofs.Common.{◌≡◌, ◌⊎◌, ℕ, ℤ, zero, suc, ◌+◌, ◌-◌, ◌*◌, ◌<◌, ◌≤◌, eq-eqb, Bool, true≢false, Option, Some, None, List, [], ◌∷◌, ◌++◌, length, get_or, replicate, refl, sym, ap, ◌∙◌, subst, ⊎_elim, inl, inr, append_assoc, append-nil, arith}
 use mathlib.Core.Logic.{dite}
 use native.Mathlib.Decide.{ℕ_discrete}
@@ -8,22 +9,22 @@ use Rattle.std.proofs.lemmas.Option.{none-some, same_Some}
 use Rattle.std.proofs.lemmas.Int.{ints}
 use Rattle.std.proofs.lemmas.List.{get_or-replicate, length-replicate}
 use Rattle.std.proofs.lemmas.List.Elements.{Contains-push}
+use Rattle.std.proofs.lemmas.Bool.{ltb-true}
 use Rattle.number_counts.specs.Counts.{times, HasEachBelow}
 use Rattle.number_counts.proofs.CountLaws.{one-same, one-other, each_below-none}
+use Rattle.number_laws.specs.Missing.{IsAtMost, greater}
+use Rattle.number_laws.proofs.MissingLaws.{IsAtMost-trans, IsGreaterOf-greater}
 use Rattle.work_chains.specs.Chains.{Reaches, at_root, at_left, at_right, inner_note, ids_of, tickets_of, no_task, in_hand}
 use Rattle.work_chains.specs.NodeChains.{Nothing, NodeNote, AreNodeChains, AreSettledNodes}
 use Rattle.number_counts.proofs.Members.{among-none, among-first, among-rest, among-which, among-last, among-longer}
 use Rattle.work_chains.proofs.NodeNumbers.{lefts, rights, nodes-below}
 use Rattle.search_core.specs.declared.note.CoreNote.{CoreNote}
-use Rattle.search_core.proofs.Margins.{at-most-trans, better-is}
-use Rattle.std.specs.Prelude.{map, Result, Ok, Err, OnOk, OnErr, Contains, IsTrue}
-use Rattle.std.proofs.lemmas.Bool.{ltb-true}
 use Rattle.search_core.specs.declared.event.Event.{Event}
 use Rattle.search_core.specs.declared.event.Event.TheVariants.{Take, Steal, Ticket, Split, Close, Offer, See, PushCut}
 use Rattle.search_core.specs.declared.worker.Worker.{Worker}
 use Rattle.search_core.specs.Cores.{Core, fresh_worker, first_core, worker_at, tickets_given, node_notes, nodes_of, held_tickets, noted_tickets, waiting_nodes, noted_nodes, part_nodes, notes_by, node_note, outcome_of}
-use Rattle.search_core.specs.Events.{is_enabled, is_known, after, better}
-use Rattle.search_core.specs.Good.{IsAtMost, spent_count, IsGoodWorker, IsGood}
+use Rattle.search_core.specs.Events.{is_enabled, is_known, after}
+use Rattle.search_core.specs.Good.{spent_count, IsGoodWorker, IsGood}
 use Rattle.search_core.specs.Laws.{IsRun, offers_of, IsGreatest, IsIdle, HasSpent, RunsAreGood}
 use Rattle.search_core.proofs.CoreLists.{and-is, none-is, not-is}
 use Rattle.search_core.proofs.EventLaws.{take-good, steal-good, draw-good, split-good, close-good, offer-good, see-good, cut-good}
@@ -110,17 +111,17 @@ module _ (workers budget : ℕ) (some : 1 ≤ workers) (most : workers ≤ 17) (
 
 -- ---- the best of all offers
 
-greatest-more : (best : Option ℤ) (margins : List ℤ) (m : ℤ) → IsGreatest best margins → IsGreatest (better best m) (margins ++ m ∷ [])
+greatest-more : (best : Option ℤ) (margins : List ℤ) (m : ℤ) → IsGreatest best margins → IsGreatest (greater best (Some m)) (margins ++ m ∷ [])
 greatest-more None margins m none = subst (λ (ms : List ℤ). IsGreatest (Some m) (ms ++ m ∷ [])) (sym none)
     (among-first m [], λ x there. ⊎_elim (λ (is : x ≡ m). omega (arith, ints)) (λ nowhere. absurd (among-none x nowhere)) (among-which m [] x there))
-greatest-more (Some b) margins m is = let new = better-is (Some b) m in (
+greatest-more (Some b) margins m is = let new = IsGreaterOf-greater (Some b) (Some m) in (
   ⊎_elim
-      (λ (same : better (Some b) m ≡ Some b). subst (λ (z : ℤ). Contains (margins ++ m ∷ []) z) (sym (same_Some _ _ same)) (among-longer margins m b is.0))
-      (λ (same : better (Some b) m ≡ Some m). subst (λ (z : ℤ). Contains (margins ++ m ∷ []) z) (sym (same_Some _ _ same)) (Contains-push margins m))
+      (λ (same : greater (Some b) (Some m) ≡ Some b). subst (λ (z : ℤ). Contains (margins ++ m ∷ []) z) (sym (same_Some _ _ same)) (among-longer margins m b is.0))
+      (λ (same : greater (Some b) (Some m) ≡ Some m). subst (λ (z : ℤ). Contains (margins ++ m ∷ []) z) (sym (same_Some _ _ same)) (Contains-push margins m))
       new.either,
   λ x there. ⊎_elim
-      (λ was. at-most-trans (Some x) (Some b) (better (Some b) m) (is.1 x was) new.old)
-      (λ (e : x ≡ m). subst (λ (z : ℤ). IsAtMost (Some z) (better (Some b) m)) (sym e) new.offer)
+      (λ was. IsAtMost-trans (Some x) (Some b) (greater (Some b) (Some m)) (is.1 x was) new.first)
+      (λ (e : x ≡ m). subst (λ (z : ℤ). IsAtMost (Some z) (greater (Some b) (Some m))) (sym e) new.second)
       (among-last margins m x there),
 )
 

@@ -1,6 +1,7 @@
 -- The events of a search: when each can come, and what it changes.
-use Rattle.std.specs.Prelude.{ℕ, ℤ, ◌+◌, ◌*◌, Bool, true, false, ◌&&◌, ◌||◌, ◌==◌, nat_lt, int_lt, not, is_some, is_none, unwrap_or, if◌then◌else◌, Option, Some, None, List, [], ◌∷◌, ◌++◌, length, drop, slice_index}
+use Rattle.std.specs.Prelude.{ℕ, ◌+◌, ◌*◌, Bool, true, false, ◌&&◌, ◌||◌, ◌==◌, nat_lt, not, is_some, is_none, unwrap_or, if◌then◌else◌, Option, Some, None, List, [], ◌∷◌, ◌++◌, length, drop, slice_index}
 use Rattle.limits.specs.declared.TheConstants.{MOST_OWN_CUTS}
+use Rattle.number_laws.specs.Missing.{greater}
 use Rattle.search_core.specs.declared.event.Event.{Event}
 use Rattle.search_core.specs.declared.event.Event.TheVariants.{Take, Steal, Ticket, Split, Close, Offer, See, PushCut}
 use Rattle.search_core.specs.declared.worker.Worker.{Worker}
@@ -79,11 +80,6 @@ dividing to_kept ticket worker =
       deck = worker.deck ++ (2 * ticket + 2) ∷ [];
     }
 
--- the greater of a margin and the best so far
-abbrev pub better : Option ℤ → ℤ → Option ℤ
-better None margin = Some margin
-better (Some best) margin = Some (if int_lt best margin then margin else best)
-
 -- the node in hand, 0 where there is none
 abbrev pub node_in : Worker → ℕ
 node_in worker = unwrap_or worker.hand 0
@@ -110,7 +106,7 @@ after core (Split w to_kept) =
     (dividing to_kept (ticket_in (worker_at core w)) (worker_at core w))
 after core (Close w) = with_worker (with_note core w None) w (record (worker_at core w) { hand = None })
 after core (Offer w margin) =
-    with_worker (record core { best = better core.best margin }) w
-    (record (worker_at core w) { offered = better (worker_at core w).offered margin })
+    with_worker (record core { best = greater core.best (Some margin) }) w
+    (record (worker_at core w) { offered = greater (worker_at core w).offered (Some margin) })
 after core (See w) = with_worker core w (record (worker_at core w) { seen = core.best })
 after core (PushCut w) = with_worker core w (record (worker_at core w) { cuts = (worker_at core w).cuts + 1 })

@@ -1,17 +1,12 @@
 -- What holds of a core at all times.
-use Rattle.std.specs.Prelude.{◌≡◌, ℕ, ℤ, ◌+◌, ◌*◌, ◌<◌, ◌≤◌, ◌≤ℤ◌, ⊤, true, Option, Some, None, List, [], ◌∷◌, ◌++◌, length, if◌then◌else◌, Contains, ◌⊎◌}
+use Rattle.std.specs.Prelude.{◌≡◌, ℕ, ◌+◌, ◌*◌, ◌<◌, ◌≤◌, true, Some, None, List, [], ◌∷◌, ◌++◌, length, if◌then◌else◌, Contains, ◌⊎◌}
 use Rattle.limits.specs.declared.TheConstants.{MOST_NODES, MOST_OWN_CUTS, MOST_WORKERS}
 use Rattle.number_counts.specs.Counts.{times, HasEachBelow}
+use Rattle.number_laws.specs.Missing.{IsAtMost}
 use Rattle.work_chains.specs.NodeChains.{NodeTask, AreNodeChains}
 use Rattle.search_core.specs.declared.note.CoreNote.{CoreNote}
 use Rattle.search_core.specs.declared.worker.Worker.{Worker}
 use Rattle.search_core.specs.Cores.{Core, worker_at, tickets_given, held_tickets, noted_tickets, waiting_nodes, noted_nodes, part_nodes, notes_by, task_in}
-
--- a margin that may be missing is at most another
-abbrev pub IsAtMost : Option ℤ → Option ℤ → Type 0
-IsAtMost None most = ⊤
-IsAtMost (Some margin) None = ⊥
-IsAtMost (Some margin) (Some most) = margin ≤ℤ most
 
 -- one for a worker that is spent
 abbrev pub spent_one : Worker → ℕ

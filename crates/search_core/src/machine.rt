@@ -33,7 +33,8 @@ impl Model for Machine {
 /// So many workers, the first with node 0 in hand.
 fn fresh_workers(alloc: Global, count: u32) -> Result<Vec<Worker>, AllocError>
     requires { 1 ≤ count }
-    ensures { IfOk result (λ workers. workers.items ≡ fresh_worker (Some 0) ∷ replicate (count - 1) (fresh_worker None)) }
+    ensures { IfOk result (λ workers.
+        workers.items ≡ fresh_worker (Some 0) ∷ replicate (count - 1) (fresh_worker None)) }
 {
     let mut workers = Vec::new(alloc);
     workers.push(Worker::new(alloc, Some(0)))?;

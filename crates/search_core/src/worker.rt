@@ -1,6 +1,7 @@
 ghost use Rattle.std.specs.Prelude.{◌≡◌, ◌+◌, ◌*◌, ◌^◌, ◌<◌, IsTrue, Some, OnOk, OnErr, nat_lt};
 ghost use Rattle.search_core.specs.Cores.{fresh_worker};
-ghost use Rattle.search_core.specs.Events.{can_take, can_draw, can_close, taking, drawing, dividing, better};
+ghost use Rattle.search_core.specs.Events.{can_take, can_draw, can_close, taking, drawing, dividing};
+ghost use Rattle.number_laws.specs.Missing.{greater};
 
 use crate::queue::Queue;
 use std::alloc::{AllocError, Global};
@@ -101,7 +102,7 @@ impl Worker {
 
 /// The greater of a margin and the best so far.
 pub(crate) fn better(best: Option<i64>, margin: i64) -> Option<i64>
-    ensures { result ≡ better best margin }
+    ensures { result ≡ greater best (Some margin) }
 {
     match best {
         None => Some(margin),

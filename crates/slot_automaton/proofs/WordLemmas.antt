@@ -5,11 +5,12 @@ use Rattle.std.proofs.lemmas.List.{same_from_push, take_more, take-append-drop}
 use Rattle.std.proofs.lemmas.List.Sums.{fold-append}
 use Rattle.std.proofs.lemmas.Nat.Bits.{bit_at-zero}
 use Rattle.std.proofs.lemmas.List.Elements.{All-nil, All-push, All-pop}
+use Rattle.number_laws.proofs.BitLaws.{one_from_set}
 use Rattle.slot_automaton.specs.Independence.{IsIndependent}
 use Rattle.slot_automaton.specs.Normal.{IsNormal, IsOutOfOrder}
 use Rattle.slot_automaton.specs.Blocked.{next_blocked, blocked_after, ClosesPart}
 use Rattle.slot_automaton.specs.Laws.{EmptyIsNormal, PartsAreNormal, BlockedAreClosing, NormalGrows, BlockedGrow}
-use Rattle.slot_automaton.proofs.BitLemmas.{set_next, one_from_set}
+use Rattle.slot_automaton.proofs.MaskLaws.{set_next}
 
 -- a list is empty or has a last element
 pub from_end : (xs : List ℕ) → (xs ≡ []) ⊎ ((front : List ℕ) × (last : ℕ) × (xs ≡ front ++ last ∷ []))

@@ -5,7 +5,7 @@ use Rattle.std.proofs.lemmas.Nat.Bits.{bit_at-suc, bit_at-zero, bit_at_lowest}
 use Rattle.std.proofs.Math.Nat.{pow-suc, eq-zero-or-pos, mul-zero, mul_comm}
 use Rattle.std.specs.Int.Count.{ones, ones_step}
 use Rattle.std.proofs.lemmas.Nat.{ones-le, div_below, mod_below, mul-add-lt, div-mul-add, mod-mul-add, div-add-mod'}
-use Rattle.slot_box.proofs.SetLaws.{digit_cases}
+use Rattle.number_laws.proofs.BitLaws.{digit_cases}
 use Rattle.slot_box.specs.Counting.{IsCountOf}
 
 -- the digits that are 1

@@ -7,12 +7,12 @@ use Rattle.std.proofs.Math.Nat.{eq-zero-or-pos, mul-pos}
 use Rattle.std.proofs.lemmas.Nat.Bits.{bit_at_and, bit_at_ones, bit_at_above, bit_at-lt}
 use Rattle.std.proofs.lemmas.Bool.{cases_Bool, and_parts, and_from, eqb-true, eq-eqb, leb-true, le-leb, cases_lt, leb-false, lt-ltb, le-ltb, ltb-true, ltb-false, false≢true, cond-true, cond-false}
 use Rattle.std.specs.Int.Count.{ones}
+use Rattle.number_laws.proofs.BitLaws.{one_from_set, set_from_one}
 use Rattle.slot_box.specs.declared.slot.Slot.{Slot}
 use Rattle.slot_box.specs.Counting.{IsCountOf}
 use Rattle.slot_box.specs.Entries.{Entry, idle, runs, LiesIn}
 use Rattle.slot_box.specs.Slots.{IsSlot, IsWithin, size_of, operations_of, has_zeros, live_of, ways_of, idle_bit}
 use Rattle.slot_box.proofs.CountLaws.{HasDigit, digits, numbers, pairs, renamed}
-use Rattle.slot_box.proofs.SetLaws.{digit_from_set, set_from_digit}
 
 -- ---- the operations of a set
 
@@ -24,12 +24,12 @@ digit_below w n k small =
 pub operation_there : (s : Slot) (op : ℕ) → HasDigit (operations_of s) op → (op < idle_bit) × IsBitSet s.ops op
 operation_there s op there =
     elim (cases_lt op 63) [
-      | inl small ↦ (small, set_from_digit s.ops op (sym (digit_below 63 s.ops op small) ∙ there))
+      | inl small ↦ (small, set_from_one s.ops op (sym (digit_below 63 s.ops op small) ∙ there))
       | inr large ↦ absurd (let none = bit_at_above (s.ops % 2 ^ 63) 63 op (omega arith) large in omega (arith, none, there))
     ]
 
 pub operation_digit : (s : Slot) (op : ℕ) → op < idle_bit → IsBitSet s.ops op → HasDigit (operations_of s) op
-operation_digit s op small there = digit_below 63 s.ops op small ∙ digit_from_set s.ops op there
+operation_digit s op small there = digit_below 63 s.ops op small ∙ one_from_set s.ops op there
 
 -- ---- idle
 
@@ -61,7 +61,7 @@ idle_live : (s : Slot) → IsSlot s → LiesIn s idle → idle_is_live s ≡ tru
 idle_live s slot lies =
     let zeros = zeros_of_idle s lies in
     let live = live_with_zeros s zeros in
-    let digit = digit_from_set s.ops 63 lies.there in
+    let digit = one_from_set s.ops 63 lies.there in
     let set = slot.set in
     le-leb _ _ (omega arith)
 
@@ -75,7 +75,7 @@ idle_lies s slot live =
           let set = slot.set in
           record {
             known = tt;
-            there = set_from_digit s.ops 63 (omega arith);
+            there = set_from_one s.ops 63 (omega arith);
             volume = (omega (arith, each), omega arith);
             start = (omega (arith, each), omega arith);
             end = (omega (arith, each), omega arith);

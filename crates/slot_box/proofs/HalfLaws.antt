@@ -5,6 +5,7 @@ use Rattle.std.proofs.lemmas.Nat.{and_mod, and_shr, and_le_l, mod_below, pow_pos
 use Rattle.std.proofs.Math.Nat.{mod-mod, mod-eq_of_lt}
 use Rattle.std.proofs.lemmas.Bool.{cases_Bool, cases_lt, and_parts, and_from, ltb-true, leb-true, leb-false, lt-ltb, le-leb, false≢true, cond-true, cond-false, false_from_ne_true}
 use Rattle.std.specs.Int.Count.{ones}
+use Rattle.number_laws.proofs.BitLaws.{set_from_one, rest, rest_from, in_or_out, out_from_digit, ones_parts, set_and}
 use Rattle.slot_box.specs.declared.slot.Slot.{Slot}
 use Rattle.slot_box.specs.declared.split.SplitKind.{SplitKind}
 use Rattle.slot_box.specs.declared.split.SplitKind.TheVariants.{Ops, Volume, Start, End}
@@ -13,7 +14,6 @@ use Rattle.slot_box.specs.Entries.{Entry, idle, runs, bit_of, volume_of, start_o
 use Rattle.slot_box.specs.Slots.{IsSlot, size_of, operations_of, has_zeros, live_of, ways_of}
 use Rattle.slot_box.specs.Splits.{GoesLeft, left_half, right_half, divides}
 use Rattle.slot_box.proofs.EntryLaws.{live_with_zeros, live_without, zeros_of_idle, zeros_within, operation_digit}
-use Rattle.slot_box.proofs.SetLaws.{set_from_digit, both, both_from, rest, rest_from, in_or_out, out_from_digit, ones_parts}
 
 -- ---- which entries lie in a half
 
@@ -27,7 +27,7 @@ pub LiesIn-left : (s : Slot) (kind : SplitKind) (e : Entry) → LiesIn s e → G
 LiesIn-left s (Ops set) e lies left =
     record {
       known = lies.known;
-      there = both s.ops set (bit_of e) lies.there left;
+      there = (set_and s.ops set (bit_of e)).1 (lies.there, left);
       volume = lies.volume;
       start = lies.start;
       end = lies.end;
@@ -71,7 +71,7 @@ cut_from lo hi x n below upto some =
 
 pub LiesIn-from_left : (s : Slot) (kind : SplitKind) (e : Entry) → divides s kind ≡ true → LiesIn (left_half s kind) e → LiesIn s e × GoesLeft kind e
 LiesIn-from_left s (Ops set) e is lies =
-    let there = both_from s.ops set (bit_of e) lies.there in
+    let there = (set_and s.ops set (bit_of e)).0 lies.there in
     (record { known = lies.known; there = there.0; volume = lies.volume; start = lies.start; end = lies.end }, there.1)
 LiesIn-from_left s (Volume x) e is lies =
     let cut = cut_at s.volume.lo s.volume.hi x (operations_of s) is in (
@@ -200,14 +200,7 @@ IsSlot-left s (Ops m) slot is =
     let low_less = and_le_l (s.ops % 2 ^ 63) m in
     let low = mod_and 63 s.ops m in
     let live = live-left s m in
-    record {
-      volume = slot.volume;
-      start = slot.start;
-      end = slot.end;
-      set = omega (arith, slot.set);
-      known = omega (arith, slot.known);
-      live = omega arith;
-    }
+    record { volume = slot.volume; start = slot.start; end = slot.end; set = omega (arith, slot.set); known = omega (arith, slot.known); live = omega arith }
 IsSlot-left s (Volume x) slot is =
     let cut = cut_at s.volume.lo s.volume.hi x (operations_of s) is in
     record {
@@ -244,14 +237,7 @@ IsSlot-right s (Ops m) slot is =
     let parts = divides_set (live_of s) m is in
     let low = mod_rest s.ops m in
     let live = live-right s m in
-    record {
-      volume = slot.volume;
-      start = slot.start;
-      end = slot.end;
-      set = omega (arith, slot.set);
-      known = omega (arith, slot.known);
-      live = omega arith;
-    }
+    record { volume = slot.volume; start = slot.start; end = slot.end; set = omega (arith, slot.set); known = omega (arith, slot.known); live = omega arith }
 IsSlot-right s (Volume x) slot is =
     let cut = cut_at s.volume.lo s.volume.hi x (operations_of s) is in
     record {
@@ -290,12 +276,7 @@ pub IsSlotOfRoot-left : (ops volume horizon : ℕ) (s : Slot) (kind : SplitKind)
 IsSlotOfRoot-left ops volume horizon s (Ops m) is within =
     let low_less = and_le_l (s.ops % 2 ^ 63) m in
     let low = mod_and 63 s.ops m in
-    record {
-      set = omega (arith, within.set);
-      volume_end = within.volume_end;
-      start_end = within.start_end;
-      end_end = within.end_end;
-    }
+    record { set = omega (arith, within.set); volume_end = within.volume_end; start_end = within.start_end; end_end = within.end_end }
 IsSlotOfRoot-left ops volume horizon s (Volume x) is within =
     let cut = cut_at s.volume.lo s.volume.hi x (operations_of s) is in
     record {
@@ -325,12 +306,7 @@ pub IsSlotOfRoot-right : (ops volume horizon : ℕ) (s : Slot) (kind : SplitKind
     → IsSlotOfRoot ops volume horizon (right_half s kind)
 IsSlotOfRoot-right ops volume horizon s (Ops m) within =
     let low = mod_rest s.ops m in
-    record {
-      set = omega (arith, within.set);
-      volume_end = within.volume_end;
-      start_end = within.start_end;
-      end_end = within.end_end;
-    }
+    record { set = omega (arith, within.set); volume_end = within.volume_end; start_end = within.start_end; end_end = within.end_end }
 IsSlotOfRoot-right ops volume horizon s (Volume x) within =
     record { set = within.set; volume_end = within.volume_end; start_end = within.start_end; end_end = within.end_end }
 IsSlotOfRoot-right ops volume horizon s (Start x) within =
@@ -354,16 +330,16 @@ live_entry s e lies =
     operation : (e : Entry) → LiesIn s e → has_zeros s ≡ false → IsBitSet (operations_of s) (bit_of e)
     operation idle lies none = absurd (false≢true (sym none ∙ zeros_of_idle s lies))
     operation (runs op start end volume) lies none =
-        set_from_digit _ op (operation_digit s op lies.known lies.there)
+        set_from_one _ op (operation_digit s op lies.known lies.there)
 
 some_operation : (s : Slot) (e : Entry) → LiesIn s e → (0 < volume_of e) ⊎ (0 < start_of e) ⊎ (0 < end_of e) → 0 < operations_of s
 some_operation s idle lies more = absurd (elim more [ inl v ↦ omega arith | inr b ↦ elim b [ inl s ↦ omega arith | inr e ↦ omega arith ] ])
 some_operation s (runs op start end volume) lies more =
-    some_from_bit _ op (set_from_digit _ op (operation_digit s op lies.known lies.there))
+    some_from_bit _ op (set_from_one _ op (operation_digit s op lies.known lies.there))
 
 pub divides_from : (s : Slot) (kind : SplitKind) (e f : Entry) → LiesIn s e → GoesLeft kind e → LiesIn s f → (¬ (GoesLeft kind f)) → divides s kind ≡ true
 divides_from s (Ops m) e f lies_e left lies_f right =
-    let here = some_from_bit _ (bit_of e) (both (live_of s) m (bit_of e) (live_entry s e lies_e) left) in
+    let here = some_from_bit _ (bit_of e) ((set_and (live_of s) m (bit_of e)).1 (live_entry s e lies_e, left)) in
     let there = some_from_bit _ (bit_of f) (rest (live_of s) m (bit_of f) (live_entry s f lies_f) right) in
     let less : bit_and (live_of s) m < live_of s = omega arith in
     and_from _ _ (lt-ltb _ _ here) (lt-ltb _ _ less)

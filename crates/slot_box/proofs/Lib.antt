@@ -8,7 +8,6 @@ pub mod LiveLaws
 pub mod NodeLaws
 pub mod OnlyLaws
 pub mod PointLaws
-pub mod SetLaws
 pub mod ShapeLaws
 pub mod SlotLaws
 pub mod SplitLaws

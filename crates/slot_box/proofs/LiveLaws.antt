@@ -7,6 +7,7 @@ use Rattle.std.proofs.Math.Nat.{eq-zero-or-pos, pow-le-pow_right}
 use Rattle.std.proofs.lemmas.Nat.Bits.{bit_at-lt, bit_at_above, bit_at-pow_same, bit_at-pow_other, bit_at-trailing_zeros, same_from_bits}
 use Rattle.std.proofs.lemmas.Bool.{cases_Bool, cases_eq, and_parts, and_from, eqb-true, eq-eqb, ltb-true, lt-ltb, cond-true, cond-false, cases_lt, false≢true}
 use Rattle.std.specs.Int.Count.{ones}
+use Rattle.number_laws.proofs.BitLaws.{one_from_set, set_from_one, digit_cases}
 use Rattle.slot_box.specs.declared.slot.Slot.{Slot}
 use Rattle.slot_box.specs.Counting.{IsCountOf}
 use Rattle.slot_box.specs.Slots.{IsSlot, IsLive, IsFixedTo, has_zeros, live_of, fixed_of, operations_of}
@@ -14,7 +15,6 @@ use Rattle.slot_box.proofs.CountLaws.{HasDigit, digits}
 use Rattle.slot_box.proofs.EntryLaws.{live_with_zeros, live_without, operation_there, operation_digit}
 use Rattle.slot_box.proofs.HalfLaws.{live_small}
 use Rattle.slot_box.proofs.PointLaws.{one_from_count, count_from_one}
-use Rattle.slot_box.proofs.SetLaws.{digit_from_set, set_from_digit, digit_cases}
 
 -- ---- one digit alone
 
@@ -90,7 +90,7 @@ IsLive-from_live_of s bit there =
     elim (cases_Bool (has_zeros s)) [
       | inl zeros ↦ record { there = subst (λ set. IsBitSet set bit) (live_with_zeros s zeros) there; zeros = λ is. zeros }
       | inr none ↦
-          let op = operation_there s bit (digit_from_set _ bit (subst (λ set. IsBitSet set bit) (live_without s none) there)) in
+          let op = operation_there s bit (one_from_set _ bit (subst (λ set. IsBitSet set bit) (live_without s none) there)) in
           record { there = op.1; zeros = λ is. absurd (let less = op.0 in omega arith) }
     ]
 
@@ -104,13 +104,13 @@ live_of-from_IsLive s bit slot live =
     operation : has_zeros s ≡ false → IsBitSet (operations_of s) bit
     operation none =
         elim (cases_lt bit 63) [
-          | inl small ↦ set_from_digit _ bit (operation_digit s bit small live.there)
+          | inl small ↦ set_from_one _ bit (operation_digit s bit small live.there)
           | inr large ↦
               elim (cases_eq bit 63) [
                 | inl same ↦ absurd (false≢true (sym none ∙ live.zeros same))
                 | inr other ↦
                     let above = bit_at_above s.ops 64 bit slot.set (omega arith) in
-                    let one = digit_from_set s.ops bit live.there in
+                    let one = one_from_set s.ops bit live.there in
                     absurd (omega arith)
               ]
         ]

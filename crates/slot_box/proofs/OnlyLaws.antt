@@ -6,6 +6,7 @@ use Rattle.std.specs.Int.{bit_at}
 use Rattle.std.proofs.Math.Nat.{le-mul_of_pos_right, mul_comm}
 use Rattle.std.proofs.lemmas.Bool.{cases_lt, cases_eq, le-leb}
 use Rattle.std.proofs.lemmas.Nat.Bits.{bit_at_above, bit_at-pow_same}
+use Rattle.number_laws.proofs.BitLaws.{one_from_set, set_from_one}
 use Rattle.slot_box.specs.declared.slot.Slot.{Slot}
 use Rattle.slot_box.specs.Boxes.{IsPoint, points_of, slot_at, entry_at, only_entry, only_point}
 use Rattle.slot_box.specs.Counting.{IsCountOf}
@@ -16,12 +17,11 @@ use Rattle.slot_box.proofs.EntryLaws.{IsCountOf-ways_of, ways_of-pos, idle_lies}
 use Rattle.slot_box.proofs.HalfLaws.{live_entry, live_small}
 use Rattle.slot_box.proofs.LiveLaws.{alone, pow_only, IsFixedTo-from_fixed_of, fixed_of-from_IsFixedTo, IsLive-from_live_of}
 use Rattle.slot_box.proofs.PointLaws.{one_from_count, points_of-pos, LiesIn-at}
-use Rattle.slot_box.proofs.SetLaws.{digit_from_set, set_from_digit}
 
 -- the entries of a fixed slot run its operation
 pub bit_of-fixed : (s : Slot) (op : ℕ) (e : Entry) → IsFixedTo s op → LiesIn s e → bit_of e ≡ op
 bit_of-fixed s op e fixed lies =
-    pow_only op (bit_of e) (digit_from_set _ _ (subst (λ set. IsBitSet set (bit_of e)) fixed.alone (live_entry s e lies)))
+    pow_only op (bit_of e) (one_from_set _ _ (subst (λ set. IsBitSet set (bit_of e)) fixed.alone (live_entry s e lies)))
 
 -- an operation that is live runs with the least numbers
 least_run : (s : Slot) (op : ℕ) → IsSlot s → op < 63 → IsBitSet (live_of s) op → LiesIn s (runs op s.start.lo s.end.lo s.volume.lo)
@@ -40,13 +40,13 @@ fixed_from_run : (s : Slot) (op start end volume : ℕ) → IsSlot s → LiesIn 
 fixed_from_run s op start end volume slot lies only =
     record {
       operation = lies.known;
-      alone = alone (live_of s) op (digit_from_set _ op (live_entry s _ lies)) each;
+      alone = alone (live_of s) op (one_from_set _ op (live_entry s _ lies)) each;
     }
   where
     each : (k : ℕ) → HasDigit (live_of s) k → k ≡ op
     each k there =
         elim (cases_lt k 63) [
-          | inl small ↦ only (runs k s.start.lo s.end.lo s.volume.lo) (least_run s k slot small (set_from_digit _ k there))
+          | inl small ↦ only (runs k s.start.lo s.end.lo s.volume.lo) (least_run s k slot small (set_from_one _ k there))
           | inr large ↦
               elim (cases_eq k 63) [
                 | inl same ↦
@@ -74,7 +74,7 @@ only_entry_lies s slot single = by_fixed (fixed_of s) refl
     by_fixed None is = rw is (idle_is one.0 one.1 one.2 is)
     by_fixed (Some op) is =
         let fixed = IsFixedTo-from_fixed_of s op slot is in
-        let live : IsBitSet (live_of s) op = subst (λ set. IsBitSet set op) (sym fixed.alone) (set_from_digit _ op (bit_at-pow_same op)) in
+        let live : IsBitSet (live_of s) op = subst (λ set. IsBitSet set op) (sym fixed.alone) (set_from_one _ op (bit_at-pow_same op)) in
         rw is (least_run s op slot fixed.operation live)
 
 -- the factors of one

@@ -9,7 +9,7 @@ use Rattle.plant_model.specs.Parts.{op_of}
 use Rattle.plant_model.specs.Relations.{AreApart}
 use Rattle.replay_core.specs.declared.timed.Timed.{Timed}
 use Rattle.replay_core.specs.State.{held_of, drawn_of, after_step}
-use Rattle.replay_core.proofs.StateLaws.{length-moved, moved-source, moved-target, moved-other}
+use Rattle.replay_core.proofs.StateLaws.{length-moved, moved-source, moved-target, after-other}
 
 -- the places of the operation are there, and two
 pub record HasPlaces (parts : Parts) (state : List (List ℕ)) (t : Timed) : Type 0 where
@@ -32,12 +32,6 @@ pub after-target : (parts : Parts) (state : List (List ℕ)) (t : Timed) → Has
     ≡ mix_of (held_of state (op_of parts t.op).to) (drawn_of parts state t)
 unfolding after_step
 after-target parts state t has = moved-target state (op_of parts t.op).from (op_of parts t.op).to (drawn_of parts state t) has.target has.apart
-
-pub after-other : (parts : Parts) (state : List (List ℕ)) (t : Timed) (p : ℕ) → p ≢ (op_of parts t.op).from → p ≢ (op_of parts t.op).to →
-    held_of (after_step parts state t) p ≡ held_of state p
-unfolding after_step
-after-other parts state t p not_source not_target = moved-other state (op_of parts t.op).from (op_of parts t.op).to p (drawn_of parts state t) not_source
-    not_target
 
 -- ---- what the second finds
 

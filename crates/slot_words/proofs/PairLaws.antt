@@ -19,8 +19,8 @@ use Rattle.replay_core.specs.inside.Levels.{HoldsWithin}
 use Rattle.replay_core.specs.Legal.{own_faults, order_faults, place_faults, op_faults, broken}
 use Rattle.item_lists.proofs.FaultLaws.{holds_of_nil}
 use Rattle.replay_core.proofs.RuleLaws.{KeepsOwnRules, KeepsPlaceRules, RunsSoundly, own_rules_kept, place_rules_kept, rules_kept, runs_soundly, maximum-kept}
-use Rattle.replay_core.proofs.StateLaws.{places_apart, drawn-crudes, drawn-volume, state_after_push}
-use Rattle.slot_words.proofs.MoveLaws.{HasPlaces, KeepApart, keep_apart, other_way, after-target, after-other, source-kept, draw-kept}
+use Rattle.replay_core.proofs.StateLaws.{places_apart, drawn-crudes, drawn-volume, state_after_push, after-other}
+use Rattle.slot_words.proofs.MoveLaws.{HasPlaces, KeepApart, keep_apart, other_way, after-target, source-kept, draw-kept}
 
 -- ---- an operation that breaks no rule where those others have run before it
 

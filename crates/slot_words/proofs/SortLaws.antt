@@ -18,13 +18,14 @@ use Rattle.replay_core.specs.Rules.{last_start, starts_after_ordered}
 use Rattle.replay_core.specs.Legal.{op_faults, step_faults_from, step_faults, IsLegalIn, IsLegal, CanRun}
 use Rattle.replay_core.specs.Margin.{margin_of}
 use Rattle.replay_core.proofs.StepLaws.{CanRun-legal, first_broken-accepted}
+use Rattle.replay_core.proofs.RuleLaws.{rules_kept}
+use Rattle.replay_core.proofs.OrderLaws.{last_start_push}
 use Rattle.slot_words.specs.Swaps.{AreEquivalent}
 use Rattle.slot_words.specs.Swaps.AreEquivalent.{itself}
 use Rattle.slot_words.specs.ByStart.{starts_at, IsByStart}
 use Rattle.slot_words.proofs.PairLaws.{may_run}
 use Rattle.slot_words.proofs.ChainLaws.{one_swap, joined, behind, equivalent_mean_the_same, same_entries}
-use Rattle.replay_core.proofs.RuleLaws.{rules_kept}
-use Rattle.slot_words.proofs.StartLaws.{start-faults, start-order, last_start_push}
+use Rattle.slot_words.proofs.StartLaws.{start-faults, start-order}
 
 -- ---- of two that are ordered the first starts no later
 

@@ -2,8 +2,7 @@
 use Rattle.std.proofs.Common.{◌≡◌, ℕ, ◌+◌, ◌≤◌, Bool, true, false, not, ◌&&◌, ◌||◌, List, [], ◌∷◌, ◌++◌, length, All, refl, sym, ◌∙◌, arith}
 use Rattle.std.specs.Prelude.{nat_le}
 use Rattle.std.specs.List.{list_all}
-use Rattle.std.proofs.lemmas.Bool.{leb-true, le-leb}
-use Rattle.std.proofs.lemmas.List.Sums.{fold_push}
+use Rattle.std.proofs.lemmas.Bool.{le-leb}
 use Rattle.std.proofs.lemmas.List.Elements.{All-head, All-tail, All-nil, All-push}
 use Rattle.item_lists.proofs.FaultLaws.{nil_of_append, holds_of_nil}
 use Rattle.plant_model.specs.declared.parts.Parts.{Parts}
@@ -14,20 +13,9 @@ use Rattle.replay_core.specs.Rules.{last_start, starts_in_order, starts_after_or
 use Rattle.replay_core.specs.Legal.{broken, own_faults, order_faults, place_faults, op_faults, step_faults_from, step_faults, IsLegalIn, IsLegal, CanRun}
 use Rattle.replay_core.proofs.RuleLaws.{rules_kept}
 use Rattle.replay_core.proofs.StepLaws.{CanRun-legal, first_broken-accepted}
+use Rattle.replay_core.proofs.OrderLaws.{last_start_push, starts_in_order-true, starts_in_order-from}
 
 -- ---- a plan keeps the order of slots
-
-pub last_start_push : (before : List Timed) (t : Timed) → last_start (before ++ t ∷ []) ≡ t.start
-unfolding last_start
-last_start_push before t = fold_push (λ _ (s : Timed). s.start) 0 before t
-
-starts_in_order-true : (before : List Timed) (t : Timed) → starts_in_order before t ≡ true → last_start before ≤ t.start
-unfolding starts_in_order
-starts_in_order-true before t holds = leb-true (last_start before) t.start holds
-
-starts_in_order-from : (before : List Timed) (t : Timed) → last_start before ≤ t.start → starts_in_order before t ≡ true
-unfolding starts_in_order
-starts_in_order-from before t below = le-leb (last_start before) t.start below
 
 either : (b : Bool) {c : Bool} → c ≡ true → ((b || true) && c) ≡ true
 either true rest = rest

@@ -20,8 +20,8 @@ pub data AreEquivalent (parts : Parts) : List Timed → List Timed → Type 0 wh
   swapped : (word next last : List Timed) → IsSwap parts word next → AreEquivalent parts next last
       → AreEquivalent parts word last
 
--- the other word breaks no rule where the first breaks none; and already where the operations of the first can run, those
--- of the other can, every place holds the same in the end, and the margin is the same
+-- the other word breaks no rule where the first breaks none; and already where the operations of the first can run,
+-- those of the other can, every place holds the same in the end, and the margin is the same
 pub record MeansTheSame (parts : Parts) (word other : List Timed) : Type 0 where
   pub legal : IsLegalIn parts BySlot word → IsLegalIn parts BySlot other
   pub can_run : CanRun parts BySlot word → CanRun parts BySlot other

@@ -8,10 +8,10 @@ use Rattle.slot_box.specs.Boxes.{points_of}
 use Rattle.slot_box.specs.Splits.{left_of, right_of}
 use Rattle.slot_box.proofs.TreeLaws.{IsBox-left_of, IsBox-right_of, points_of-split, points_of-box}
 use Rattle.number_counts.specs.Counts.{times, HasEachBelow}
+use Rattle.number_counts.proofs.Members.{among-none, among-first, among-rest, among-which}
 use Rattle.work_chains.specs.Chains.{Noted, inner_note, leaf_note, ids_of, tickets_of, task_ids, AreChains, no_task, in_hand, closes, divides, Reaches, at_root, at_left, at_right, AreSettled, TakesAllHanded}
 use Rattle.work_chains.specs.BoxChains.{DividesBox}
 use Rattle.work_chains.specs.Laws.{ChainsSettle}
-use Rattle.number_counts.proofs.Members.{among-none, among-first, among-rest, among-which}
 use Rattle.work_chains.proofs.NodeNumbers.{lefts, rights, nodes-below}
 
 module _ {B S : Type 0} (Divides : B → S → Type 0) (left right : B → S → B) where
@@ -50,6 +50,20 @@ module _ {B S : Type 0} (Divides : B → S → Type 0) (left right : B → S →
     noted : Contains notes (inner_note holder above ticket split)
     part : ((id ≡ 2 * ticket + 1) × (box ≡ left above split)) ⊎ ((id ≡ 2 * ticket + 2) × (box ≡ right above split))
 
+  -- the first note holds it
+  holder-first : (holder : ℕ) (above : B) (ticket : ℕ) (split : S) (notes : List Note) (id : ℕ) (box : B) → Divides above split →
+      ((id ≡ 2 * ticket + 1) × (box ≡ left above split)) ⊎ ((id ≡ 2 * ticket + 2) × (box ≡ right above split)) →
+      HasHolder (inner_note holder above ticket split ∷ notes) id box
+  holder-first holder above ticket split notes id box lawful part = record {
+    holder = holder;
+    above = above;
+    ticket = ticket;
+    split = split;
+    lawful = lawful;
+    noted = among-first (inner_note holder above ticket split) notes;
+    part = part;
+  }
+
   holder-later : (note : Note) (notes : List Note) (id : ℕ) (box : B) → HasHolder notes id box → HasHolder (note ∷ notes) id box
   holder-later note notes id box has = record {
     holder = has.holder;
@@ -67,15 +81,8 @@ module _ {B S : Type 0} (Divides : B → S → Type 0) (left right : B → S →
   handed_from (in_hand first) task there = absurd (among-none task there)
   handed_from (closes id box chains) task there = holder-later _ _ _ _ (handed_from chains task there)
   handed_from (divides id box ticket split lawful chains) task there = ⊎_elim
-      (λ (is : task ≡ (2 * ticket + 2, right box split)). record {
-        holder = id;
-        above = box;
-        ticket = ticket;
-        split = split;
-        lawful = lawful;
-        noted = among-first _ _;
-        part = inr (ap (λ (t : ℕ × B). t.0) is, ap (λ (t : ℕ × B). t.1) is);
-      })
+      (λ (is : task ≡ (2 * ticket + 2, right box split)).
+      holder-first id box ticket split _ _ _ lawful (inr (ap (λ (t : ℕ × B). t.0) is, ap (λ (t : ℕ × B). t.1) is)))
       (λ rest. holder-later _ _ _ _ (handed_from chains task rest))
       (among-which _ _ task there)
 
@@ -91,15 +98,8 @@ module _ {B S : Type 0} (Divides : B → S → Type 0) (left right : B → S →
       (λ (is : note ≡ inner_note id box ticket split). inl (subst (λ (n : Note). Contains ((id, box) ∷ taken) (n.id, n.box)) (sym is) (among-first _ _)))
       (λ rest. ⊎_elim
       (λ was. ⊎_elim
-      (λ (is : (note.id, note.box) ≡ (2 * ticket + 1, left box split)). inr (record {
-        holder = id;
-        above = box;
-        ticket = ticket;
-        split = split;
-        lawful = lawful;
-        noted = among-first _ _;
-        part = inl (ap (λ (t : ℕ × B). t.0) is, ap (λ (t : ℕ × B). t.1) is);
-      }))
+      (λ (is : (note.id, note.box) ≡ (2 * ticket + 1, left box split)). inr (
+      holder-first id box ticket split _ _ _ lawful (inl (ap (λ (t : ℕ × B). t.0) is, ap (λ (t : ℕ × B). t.1) is))))
       (λ more. inl (among-rest _ _ _ more))
       (among-which _ _ (note.id, note.box) was))
       (λ has. inr (holder-later _ _ _ _ has))

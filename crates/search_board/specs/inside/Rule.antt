@@ -3,10 +3,10 @@ use Rattle.std.specs.Prelude.{◌≡◌, ◌⊎◌, ℕ, zero, suc, ◌+◌, ◌
 use mathlib.Core.Option.{some}
 use lib.ListN.{get_elem?}
 use Rattle.atomic_table.specs.Table.{State}
+use Rattle.limits.specs.declared.TheConstants.{MOST_SEATS}
 use Rattle.number_counts.specs.Counts.{one, times}
 use Rattle.search_board.specs.declared.known.Known.{Known}
 use Rattle.search_board.specs.Margins.{most_word}
-use Rattle.search_board.specs.Seats.{most_seats}
 use Rattle.search_board.specs.inside.Views.{gone_view, told_one, idle_one}
 
 -- what all views have together
@@ -46,7 +46,7 @@ pub record Holds (budget counter best : ℕ) (views : List Known) : Type 0 where
   pub once : (x : ℕ) → total (λ v. times x v.tickets) views ≡ below x drawn
   pub count : total (λ v. length v.tickets) views ≡ drawn
   pub bounded : counter ≤ budget + total idle_one views
-  pub seats : length views + total (λ v. v.may) views ≡ most_seats
+  pub seats : length views + total (λ v. v.may) views ≡ MOST_SEATS
   pub standing : total (λ v. v.stands) views ≡ length views
   pub each : (id : ℕ) (v : Known) → get_elem? views id ≡ some v → Fits budget counter best v
   pub reached : (best ≡ 0) ⊎ Reached best views

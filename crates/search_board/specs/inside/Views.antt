@@ -1,7 +1,8 @@
 -- What a seat knows, and how each step changes it.
 use Rattle.std.specs.Prelude.{ℕ, suc, ◌+◌, ◌-◌, max, true, false, if◌then◌else◌, [], ◌∷◌, ◌++◌, Option, Some, None}
+use Rattle.limits.specs.declared.TheConstants.{MOST_SEATS}
 use Rattle.search_board.specs.declared.known.Known.{Known}
-use Rattle.search_board.specs.Seats.{most_seats, first_told}
+use Rattle.search_board.specs.Seats.{first_told}
 
 -- the first seat of a board with this budget
 abbrev pub first_view : ℕ → Known
@@ -12,7 +13,7 @@ first_view budget = record {
   looks = 0;
   told = None;
   stands = 1;
-  may = most_seats - 1;
+  may = MOST_SEATS - 1;
   budget = budget;
   gone = false;
 }

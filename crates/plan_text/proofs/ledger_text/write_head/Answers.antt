@@ -13,7 +13,7 @@ returns c =
     let given = to_z-of_z w64 c.args.margin c.ranges.margin in
     let second = c.in_ok-write_margin.ensures
     ∙ ap (λ (z : ℤ). c.push_text.new.out.items ++ (line_of (codes "margin" ∷ signed_decimal z ∷ []) ++ 10 ∷ [])) given in
-    on_ok_weaker c.write_count.result
-    (λ third. head_written c.args.out.now.items c.push_text.new.out.items c.write_margin.new.out.items c.write_count.new.out.items c.args.margin c.args.count
+    on_ok_weaker c.push_count.result
+    (λ third. head_written c.args.out.now.items c.push_text.new.out.items c.write_margin.new.out.items c.push_count.new.out.items c.args.margin c.args.count
     c.in_ok-push_text.ensures.ok second third)
-    c.write_count.ensures
+    c.push_count.ensures.ok

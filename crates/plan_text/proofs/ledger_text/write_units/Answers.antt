@@ -3,8 +3,9 @@ use Rattle.std.proofs.lemmas.List.{append-nil, drop_all}
 use Rattle.item_lists.specs.Faults.{each_from}
 use Rattle.line_text.specs.Words.{text_of}
 use Rattle.plant_model.specs.Parts.{places_of, place_of}
+use Rattle.plant_model.proofs.PlaceLists.{length-places_of}
 use Rattle.plan_text.specs.Ledger.{lines_at, unit_lines}
-use Rattle.plan_text.proofs.LedgerLaws.{length-places_of, each_place-at, more_written}
+use Rattle.plan_text.proofs.LedgerLaws.{each_place-at, more_written}
 use Rattle.plan_text.proofs.ledger_text.write_units.Goals as goal
 
 pub loop-p-init : goal.loop-p-init

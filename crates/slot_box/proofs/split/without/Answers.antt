@@ -1,5 +1,5 @@
 use Rattle.std.proofs.Common.{arith}
-use Rattle.slot_box.proofs.SetLaws.{and-not}
+use Rattle.number_laws.proofs.BitLaws.{and-not}
 use Rattle.slot_box.proofs.split.without.Goals as goal
 
 pub returns : goal.returns

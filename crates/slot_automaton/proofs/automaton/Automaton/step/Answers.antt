@@ -1,5 +1,5 @@
-use Rattle.slot_automaton.proofs.BitLemmas.{set_next}
 use Rattle.slot_automaton.proofs.automaton.Automaton.step.Goals as goal
+use Rattle.slot_automaton.proofs.MaskLaws.{set_next}
 
 pub returns-clause-blocked : goal.returns-clause-blocked
 returns-clause-blocked c = λ a.

@@ -1,9 +1,0 @@
-use Rattle.std.proofs.Common.{take}
-use Rattle.dual_bound.specs.Conditions.{AreColumns, AreSmall}
-use Rattle.fixed_simplex.proofs.tests.checks.are_terms.Given as goal
-
-abbrev pub invariant-loop-term : goal.invariant-loop-term
-invariant-loop-term l = record {
-  columns : AreColumns l.ranges.extent (take l.term-index l.terms);
-  small : AreSmall l.ranges (take l.term-index l.terms);
-}
