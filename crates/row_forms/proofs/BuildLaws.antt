@@ -7,15 +7,16 @@ use Rattle.std.proofs.lemmas.Grind.{flat_map-append}
 use Rattle.std.proofs.lemmas.Int.{ints}
 use Rattle.std.proofs.lemmas.List.{append_assoc}
 use Rattle.std.proofs.lemmas.List.Elements.{All-head, All-tail}
+use Rattle.item_lists.specs.Joined.{joined_below}
+use Rattle.item_lists.proofs.ListLaws.{joined_below-more}
 use Rattle.linear_form.specs.declared.column.Column.{Column}
 use Rattle.linear_form.specs.declared.row.RowTerm.{RowTerm}
+use Rattle.linear_form.specs.Listed.{operation_columns, columns_of_slot}
+use Rattle.linear_form.proofs.ListedLaws.{all_operation, slot-level}
 use Rattle.plant_model.specs.declared.parts.Parts.{Parts}
 use Rattle.row_forms.specs.declared.piece.Piece.{Piece}
-use Rattle.row_forms.specs.Columns.{joined_below, operation_columns, slot_columns}
 use Rattle.row_forms.specs.Pieces.{takes, is_slot, covers, factor_in, factor_at}
 use Rattle.row_forms.specs.Terms.{term_of, terms_over, piece_terms}
-use Rattle.row_forms.proofs.JoinedLaws.{joined_below-more}
-use Rattle.row_forms.proofs.OnceLaws.{all_operation, slot-level}
 
 -- one list more
 pub terms_append : (factor : Column → ℤ) (front back : List Column) (start items new : List RowTerm) → items ≡ start ++ terms_over factor front →
@@ -61,7 +62,7 @@ operation-none parts pieces crudes slot v none =
     (factor-none parts test _ (λ piece no. rw no refl) pieces none) (λ c within. factor-none parts test _ (λ piece no. rw no refl) pieces none))
 
 pub slot-none : (parts : Parts) (pieces : List Piece) (ops crudes slot : ℕ) → list_any (λ piece. is_slot piece slot) pieces ≡ false →
-    piece_terms parts pieces (slot_columns ops crudes slot) ≡ []
+    piece_terms parts pieces (columns_of_slot ops crudes slot) ≡ []
 slot-none parts pieces ops crudes slot none =
-    terms-none (factor_at parts pieces) (slot_columns ops crudes slot) (λ k d there.
+    terms-none (factor_at parts pieces) (columns_of_slot ops crudes slot) (λ k d there.
     factor-none parts (λ piece. is_slot piece slot) _ (λ piece no. rw (slot-level ops crudes slot k d there, no) refl) pieces none)

@@ -5,24 +5,26 @@ use Rattle.std.specs.List.{sum_by}
 use Rattle.std.proofs.lemmas.Bool.{cases_lt, eq-eqb, ne_eqb, lt-ltb, le-ltb}
 use Rattle.std.proofs.lemmas.List.{get_or_past}
 use Rattle.std.proofs.lemmas.List.Sums.{sum_by-append, sum_by-cons}
+use Rattle.item_lists.specs.Joined.{joined_below}
 use Rattle.linear_form.specs.declared.column.Column.{Column}
 use Rattle.linear_form.specs.declared.column.Part.{Part}
 use Rattle.linear_form.specs.declared.column.Part.TheVariants.{Z, A, S, E}
-use Rattle.number_laws.specs.Sums.{sum_below}
+use Rattle.linear_form.specs.Listed.{column_of, idle_column, vessel_column, operation_columns, columns_of, columns_of_slot}
+use Rattle.number_laws.specs.Sums.{sum_below, when}
+use Rattle.number_laws.proofs.SumLaws.{when-zero, when-and, sum_below-same, sum_below-zeros, sum_below-single, sum_below-at, sum_below-list, sum_by-joined_below, sum_by-singles}
 use Rattle.plant_model.specs.declared.parts.Parts.{Parts}
 use Rattle.plant_model.specs.Parts.{op_count_of, crude_count_of}
 use Rattle.replay_core.specs.declared.timed.Timed.{Timed}
+use Rattle.replay_core.specs.Steps.{step_at, draw_in}
 use Rattle.row_forms.specs.declared.piece.Which.{Which}
 use Rattle.row_forms.specs.declared.piece.Figure.{Figure}
 use Rattle.row_forms.specs.declared.piece.Figure.TheVariants.{Choice, Volume, Amount, Start, End, Wait}
 use Rattle.row_forms.specs.declared.piece.Piece.{Piece}
-use Rattle.row_forms.specs.Columns.{joined_below, column_of, idle_column, vessel_column, operation_columns, slot_columns, columns_of, extent_of}
-use Rattle.row_forms.specs.Numbers.{when, step_of, draw_in, part_of, entry_number, number_in}
+use Rattle.row_forms.specs.Columns.{extent_of}
+use Rattle.row_forms.specs.Numbers.{part_of, entry_number, number_in}
 use Rattle.row_forms.specs.Pieces.{takes, is_of, is_slot, covers}
 use Rattle.row_forms.specs.Sums.{figure_of, figure_at, piece_sum}
-use Rattle.row_forms.proofs.JoinedLaws.{sum_by-joined_below, sum_by-singles}
 use Rattle.row_forms.proofs.RunLaws.{Fits}
-use Rattle.row_forms.proofs.SumLaws.{when-zero, sum_below-same, sum_below-zeros, sum_below-single, sum_below-at, sum_below-list}
 
 -- ---- the parts of an operation
 
@@ -92,10 +94,6 @@ figure-of parts word k Wait draws = refl
 
 -- ---- a slot
 
-when-and : (a b : Bool) (n : ℕ) → when (a && b) n ≡ when a (when b n)
-when-and true b n = refl
-when-and false b n = refl
-
 when-three : (a b c : Bool) (n : ℕ) → when (a && b && c) n ≡ when a (when (c && b) n)
 when-three true true true n = refl
 when-three true true false n = refl
@@ -125,7 +123,7 @@ filled : (parts : Parts) (word : List Timed) (which : Which) (figure : Figure) (
 filled parts word which figure k s fits there =
     let few = fits.few in
     let ops = op_count_of parts in
-    let op = (step_of word k).op in
+    let op = (step_at word k).op in
     let known = fits.known k there in
     let here = lt-ltb k (length word) there in
     let not_idle : op ≡ 255 → ⊥ = λ (same : op ≡ 255). omega arith in
@@ -183,7 +181,7 @@ number-slot parts word k v part =
     rw (ne_eqb (k + 1) 0 some, back) refl
 
 slot-sum : (parts : Parts) (n : ℕ) (word : List Timed) (piece : Piece) (k : ℕ) → Fits parts word →
-    sum_by (taken_of parts word piece) (slot_columns (op_count_of parts) (crude_count_of parts) (k + 1)) ≡
+    sum_by (taken_of parts word piece) (columns_of_slot (op_count_of parts) (crude_count_of parts) (k + 1)) ≡
     when (is_slot piece (k + 1)) (figure_at parts word piece.which piece.figure k)
 slot-sum parts n word piece k fits =
     let ops = op_count_of parts in
@@ -208,7 +206,7 @@ pub columns-sum : (parts : Parts) (n : ℕ) (word : List Timed) (piece : Piece) 
 columns-sum parts n word piece fits =
     let extent = extent_of parts n in
     let g = taken_of parts word piece in
-    let slots = λ (k : ℕ). slot_columns extent.ops extent.crudes (k + 1) in
+    let slots = λ (k : ℕ). columns_of_slot extent.ops extent.crudes (k + 1) in
     let vessels = joined_below (length parts.vessels) (λ p. vessel_column p ∷ []) in
     let parted = sum_by-append g (joined_below n slots) vessels in
     let first = sum_by-joined_below g n slots in

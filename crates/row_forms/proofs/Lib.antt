@@ -1,10 +1,8 @@
-mod SumLaws
-mod JoinedLaws
-mod RunLaws
+pub mod RunLaws
 mod FigureLaws
-mod ValueLaws
+pub mod ValueLaws
 mod OnceLaws
 mod TermLaws
 mod OfColumnLaws
-mod PieceLaws
+pub mod PieceLaws
 mod BuildLaws

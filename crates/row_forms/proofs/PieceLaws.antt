@@ -4,7 +4,9 @@ use Rattle.std.specs.Prelude.{◌&&◌, nat_lt, nat_le}
 use Rattle.std.proofs.lemmas.Bool.{lt-ltb, le-ltb, cases_lt, cases_Bool, eq-eqb, ne_eqb, le-leb, lt-leb}
 use Rattle.linear_form.specs.declared.column.TheConstants.{IDLE_ENTRY}
 use Rattle.linear_form.specs.declared.column.Part.TheVariants.{Z}
-use Rattle.number_laws.specs.Sums.{sum_below}
+use Rattle.linear_form.specs.Listed.{vessel_column}
+use Rattle.number_laws.specs.Sums.{sum_below, when}
+use Rattle.number_laws.proofs.SumLaws.{sum_below-same, sum_below-zeros, sum_below-cut, sum_below-single}
 use Rattle.plant_model.specs.declared.parts.Parts.{Parts}
 use Rattle.plant_model.specs.Parts.{op_count_of}
 use Rattle.plant_model.specs.Sound.{SoundPlant}
@@ -15,12 +17,9 @@ use Rattle.row_forms.specs.declared.piece.Figure.TheVariants.{Wait}
 use Rattle.row_forms.specs.declared.piece.Piece.{Piece}
 use Rattle.row_forms.specs.declared.piece.Which.{Which}
 use Rattle.row_forms.specs.declared.piece.Which.TheVariants.{Any, Idle, One, From, Into, Among, Charges}
-use Rattle.row_forms.specs.Columns.{vessel_column}
 use Rattle.row_forms.specs.Laws.{FiguresAreOfOperations, OneSlotIsItsFigure, FirstSlotsAreTheirFigures, WaitIsTheVessels}
-use Rattle.row_forms.specs.Numbers.{when}
 use Rattle.row_forms.specs.Pieces.{takes, is_of, covers, piece_of, wait_piece}
 use Rattle.row_forms.specs.Sums.{TakesOperations, figure_at, sum_of_slots, sum_of_waits}
-use Rattle.row_forms.proofs.SumLaws.{sum_below-same, sum_below-zeros, sum_below-cut, sum_below-single}
 
 -- ---- figures of operations
 

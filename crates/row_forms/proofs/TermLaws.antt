@@ -11,12 +11,13 @@ use Rattle.linear_form.specs.declared.column.Column.{Column}
 use Rattle.linear_form.specs.declared.column.Part.{Part}
 use Rattle.linear_form.specs.declared.column.Part.TheVariants.{Z, A, S, E, W}
 use Rattle.linear_form.specs.declared.row.RowTerm.{RowTerm}
+use Rattle.linear_form.specs.Listed.{columns_of}
 use Rattle.number_laws.proofs.SignedSumLaws.{abs-sum}
 use Rattle.plant_model.specs.declared.parts.Parts.{Parts}
 use Rattle.row_forms.specs.declared.piece.Figure.{Figure}
 use Rattle.row_forms.specs.declared.piece.Figure.TheVariants.{Choice, Volume, Amount, Start, End, Wait}
 use Rattle.row_forms.specs.declared.piece.Piece.{Piece}
-use Rattle.row_forms.specs.Columns.{columns_of, extent_of}
+use Rattle.row_forms.specs.Columns.{extent_of}
 use Rattle.row_forms.specs.Laws.{TermsAreSmall, FewPiecesReachLittle}
 use Rattle.row_forms.specs.Pieces.{takes, is_of, is_slot, covers, factor_in, factor_at}
 use Rattle.row_forms.specs.Sizes.{part_reach, figure_reach, piece_reach}

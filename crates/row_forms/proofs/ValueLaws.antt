@@ -9,16 +9,18 @@ use Rattle.std.proofs.lemmas.Int.{ints}
 use Rattle.std.proofs.lemmas.List.Sums.{sum_by-cons}
 use Rattle.linear_form.specs.declared.column.Column.{Column}
 use Rattle.linear_form.specs.Points.{Point, term_at, value_at}
+use Rattle.linear_form.specs.Listed.{columns_of}
 use Rattle.number_laws.specs.SignedSums.{total_by}
+use Rattle.number_laws.specs.Sums.{when}
 use Rattle.number_laws.proofs.ProductLaws.{product-sum, sum-product}
-use Rattle.number_laws.proofs.SignedSumLaws.{total_by-append, total_by-same}
+use Rattle.number_laws.proofs.SignedSumLaws.{total_by-append, total_by-same, total_by-zeros, total_by-sum}
 use Rattle.plant_model.specs.declared.parts.Parts.{Parts}
 use Rattle.plant_model.specs.Sound.{SoundPlant}
 use Rattle.replay_core.specs.declared.timed.Timed.{Timed}
 use Rattle.row_forms.specs.declared.piece.Piece.{Piece}
-use Rattle.row_forms.specs.Columns.{columns_of, extent_of}
+use Rattle.row_forms.specs.Columns.{extent_of}
 use Rattle.row_forms.specs.Laws.{RowsHoldByPieces}
-use Rattle.row_forms.specs.Numbers.{when, number_in, numbers_of}
+use Rattle.row_forms.specs.Numbers.{number_in, numbers_of}
 use Rattle.row_forms.specs.Pieces.{covers, factor_in, factor_at}
 use Rattle.row_forms.specs.Sums.{piece_sum, sum_of_pieces}
 use Rattle.row_forms.specs.Terms.{term_of, terms_over, terms_of}
@@ -66,14 +68,6 @@ piece-value parts word piece (column ∷ columns) =
     let parted = scaled-more piece.factor (g column) (sum_by g columns) in
     let sums = ap (λ (n : ℕ). piece.factor *ℤ pos n) (sum_by-cons g column columns) in
     omega (arith, ints, first, rest, parted, sums)
-
-total_by-zeros : (h : Column → ℤ) (columns : List Column) → total_by (λ column. pos 0 *ℤ h column) columns ≡ pos 0
-total_by-zeros h [] = refl
-total_by-zeros h (column ∷ columns) = let first = zero-*ℤ (h column) in let rest = total_by-zeros h columns in omega (arith, ints, first, rest)
-
-total_by-sum : (f g : Column → ℤ) (columns : List Column) → total_by (λ column. f column +ℤ g column) columns ≡ total_by f columns +ℤ total_by g columns
-total_by-sum f g [] = refl
-total_by-sum f g (column ∷ columns) = let rest = total_by-sum f g columns in omega (arith, ints, rest)
 
 -- the pieces together
 pieces-value : (parts : Parts) (word : List Timed) (columns : List Column) (pieces : List Piece) →

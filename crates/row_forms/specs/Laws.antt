@@ -1,7 +1,7 @@
 -- What is so of the terms of pieces, and what they come to at the numbers of a form.
 use Rattle.std.specs.Prelude.{◌≡◌, ℕ, ◌-◌, ◌*◌, ◌^◌, ◌<◌, ◌≤◌, List, length, All, ℤ, ◌≤ℤ◌, unsigned_abs, ◌↔◌}
 use Rattle.limits.specs.declared.TheConstants.{MOST_COLUMNS, MOST_SLOTS}
-use Rattle.number_laws.specs.Sums.{sum_below}
+use Rattle.number_laws.specs.Sums.{sum_below, when}
 use Rattle.linear_form.specs.Columns.{IsColumn, count_of}
 use Rattle.linear_form.specs.Points.{value_at, IsMet}
 use Rattle.linear_form.specs.Rows.{HasEachOnce}
@@ -15,7 +15,7 @@ use Rattle.row_forms.specs.declared.piece.Inequality.{Inequality}
 use Rattle.row_forms.specs.declared.piece.Piece.{Piece}
 use Rattle.row_forms.specs.declared.piece.Which.{Which}
 use Rattle.row_forms.specs.Columns.{extent_of}
-use Rattle.row_forms.specs.Numbers.{when, numbers_of}
+use Rattle.row_forms.specs.Numbers.{numbers_of}
 use Rattle.row_forms.specs.Pieces.{piece_of, wait_piece}
 use Rattle.row_forms.specs.Sizes.{part_reach, HasSmallReach, AreFewAndSmall}
 use Rattle.row_forms.specs.Sums.{TakesOperations, is_taken, figure_of, figure_at, piece_sum, sum_of_pieces}

@@ -4,4 +4,5 @@ pub mod Terms
 pub mod Numbers
 pub mod Sums
 pub mod Sizes
+pub mod Fits
 pub mod Laws

@@ -1,5 +1,5 @@
 -- The numbers of a slot form, by its word: past the word each slot is idle.
-use Rattle.std.specs.Prelude.{ℕ, ◌-◌, Bool, true, false, ◌==◌, nat_lt, if◌then◌else◌, List, length, take, slice_index, slice_index_or, pos}
+use Rattle.std.specs.Prelude.{ℕ, ◌-◌, ◌==◌, nat_lt, if◌then◌else◌, List, length, slice_index, pos}
 use Rattle.linear_form.specs.declared.column.TheConstants.{IDLE_ENTRY}
 use Rattle.linear_form.specs.declared.column.Column.{Column}
 use Rattle.linear_form.specs.declared.column.Part.{Part}
@@ -8,38 +8,22 @@ use Rattle.linear_form.specs.Points.{Point}
 use Rattle.plant_model.specs.declared.parts.Parts.{Parts}
 use Rattle.replay_core.specs.declared.timed.Timed.{Timed}
 use Rattle.replay_core.specs.Margin.{wait_of}
-use Rattle.replay_core.specs.State.{draw_at}
+use Rattle.replay_core.specs.Steps.{step_at, draw_in}
+use Rattle.number_laws.specs.Sums.{when}
 
--- the number where the test holds, else 0
-abbrev pub when : Bool → ℕ → ℕ
-when true n = n
-when false n = 0
-
--- past the last operation of a word
-abbrev pub no_step : Timed
-no_step = record { op = IDLE_ENTRY; start = 0; end = 0; volume = 0 }
-
--- operation k of a word, counted from 0: it fills slot k + 1
-abbrev pub step_of : List Timed → ℕ → Timed
-step_of word k = slice_index_or word k no_step
-
--- what it draws, crude by crude
-abbrev pub draw_in : Parts → List Timed → ℕ → List ℕ
-draw_in parts word k = draw_at parts (take k word) (step_of word k)
-
--- its numbers
+-- the numbers of operation k of the word, counted from 0: it fills slot k + 1
 abbrev pub part_of : Parts → List Timed → ℕ → Part → ℕ
 part_of parts word k Z = 1
 part_of parts word k (A crude) = slice_index (draw_in parts word k) crude
-part_of parts word k S = (step_of word k).start
-part_of parts word k E = (step_of word k).end
+part_of parts word k S = (step_at word k).start
+part_of parts word k E = (step_at word k).end
 part_of parts word k W = 0
 
 -- a number of an entry of slot k + 1: of the one that fills it, else 0
 abbrev pub entry_number : Parts → List Timed → ℕ → ℕ → Part → ℕ
 entry_number parts word k entry part =
     if nat_lt k (length word)
-    then when ((step_of word k).op == entry) (part_of parts word k part)
+    then when ((step_at word k).op == entry) (part_of parts word k part)
     else when (entry == IDLE_ENTRY) 1
 
 -- the number of a column; slot 0 has the vessels

@@ -1,9 +1,8 @@
 -- How far the numbers of a form reach, and how far the factors of pieces do.
 use Rattle.std.specs.Prelude.{ℕ, ◌*◌, ◌^◌, ◌<◌, ◌≤◌, List, length, All, sum_by, unsigned_abs}
-use Rattle.limits.specs.declared.TheConstants.{MOST_HORIZON, MOST_VOLUME}
+use Rattle.limits.specs.declared.TheConstants.{MOST_HORIZON, MOST_VOLUME, MOST_PIECES}
 use Rattle.linear_form.specs.declared.column.Part.{Part}
 use Rattle.linear_form.specs.declared.column.Part.TheVariants.{Z, A, S, E, W}
-use Rattle.row_forms.specs.declared.piece.TheConstants.{MOST_PIECES}
 use Rattle.row_forms.specs.declared.piece.Figure.{Figure}
 use Rattle.row_forms.specs.declared.piece.Figure.TheVariants.{Choice, Volume, Amount, Start, End, Wait}
 use Rattle.row_forms.specs.declared.piece.Piece.{Piece}
@@ -33,7 +32,7 @@ piece_reach piece = unsigned_abs piece.factor * figure_reach piece.figure
 abbrev pub HasSmallReach : List Piece → Type 0
 HasSmallReach pieces = sum_by piece_reach pieces < 2 ^ 60
 
--- so do few pieces, each with a small factor
+-- few pieces, each with a small factor
 pub record AreFewAndSmall (pieces : List Piece) : Type 0 where
   pub few : length pieces ≤ MOST_PIECES
   pub small : All (λ piece. unsigned_abs piece.factor ≤ MOST_VOLUME) pieces

@@ -1,20 +1,20 @@
 -- What figures and pieces come to at the numbers of a form.
 use Rattle.std.specs.Prelude.{ℕ, Bool, ⊤, ◌+◌, ◌<◌, ◌&&◌, nat_lt, if◌then◌else◌, List, length, sum, slice_index, ℤ, pos, ◌*ℤ◌}
 use Rattle.number_laws.specs.SignedSums.{total_by}
-use Rattle.number_laws.specs.Sums.{sum_below}
+use Rattle.number_laws.specs.Sums.{sum_below, when}
 use Rattle.linear_form.specs.declared.column.TheConstants.{IDLE_ENTRY}
 use Rattle.linear_form.specs.declared.column.Part.TheVariants.{Z}
+use Rattle.linear_form.specs.Listed.{vessel_column}
 use Rattle.plant_model.specs.declared.parts.Parts.{Parts}
 use Rattle.plant_model.specs.Parts.{op_count_of}
 use Rattle.replay_core.specs.declared.timed.Timed.{Timed}
 use Rattle.replay_core.specs.Margin.{wait_of}
+use Rattle.replay_core.specs.Steps.{step_at, draw_in}
 use Rattle.row_forms.specs.declared.piece.Which.{Which}
 use Rattle.row_forms.specs.declared.piece.Which.TheVariants.{Any, Idle, One, From, Into, Among, Charges}
 use Rattle.row_forms.specs.declared.piece.Figure.{Figure}
 use Rattle.row_forms.specs.declared.piece.Figure.TheVariants.{Choice, Volume, Amount, Start, End, Wait}
 use Rattle.row_forms.specs.declared.piece.Piece.{Piece}
-use Rattle.row_forms.specs.Columns.{vessel_column}
-use Rattle.row_forms.specs.Numbers.{when, step_of, draw_in}
 use Rattle.row_forms.specs.Pieces.{takes, is_of, is_slot, covers}
 
 -- a figure of operation k of the word
@@ -22,15 +22,15 @@ abbrev pub figure_of : Parts → List Timed → ℕ → Figure → ℕ
 figure_of parts word k Choice = 1
 figure_of parts word k Volume = sum (draw_in parts word k)
 figure_of parts word k (Amount crude) = slice_index (draw_in parts word k) crude
-figure_of parts word k Start = (step_of word k).start
-figure_of parts word k End = (step_of word k).end
+figure_of parts word k Start = (step_at word k).start
+figure_of parts word k End = (step_at word k).end
 figure_of parts word k Wait = 0
 
 -- a figure of slot k + 1, where its entry is taken; an idle slot has its choice alone
 abbrev pub figure_at : Parts → List Timed → Which → Figure → ℕ → ℕ
 figure_at parts word which figure k =
     if nat_lt k (length word)
-    then when (takes parts which (step_of word k).op) (figure_of parts word k figure)
+    then when (takes parts which (step_at word k).op) (figure_of parts word k figure)
     else when (is_of figure Z && takes parts which IDLE_ENTRY) 1
 
 -- the entries that are taken are operations of the plant
@@ -45,7 +45,7 @@ TakesOperations parts Charges = ⊤
 
 -- whether operation k of the word is there and taken
 abbrev pub is_taken : Parts → List Timed → Which → ℕ → Bool
-is_taken parts word which k = nat_lt k (length word) && takes parts which (step_of word k).op
+is_taken parts word which k = nat_lt k (length word) && takes parts which (step_at word k).op
 
 -- a piece over its slots
 abbrev pub sum_of_slots : Parts → ℕ → List Timed → Piece → ℕ

@@ -5,10 +5,11 @@ use Rattle.std.specs.Ordering.{int_eq}
 use Rattle.linear_form.specs.declared.column.Column.{Column}
 use Rattle.linear_form.specs.declared.row.RowTerm.{RowTerm}
 use Rattle.linear_form.specs.Rows.{RowForm}
+use Rattle.linear_form.specs.Listed.{columns_of}
 use Rattle.plant_model.specs.declared.parts.Parts.{Parts}
 use Rattle.row_forms.specs.declared.piece.Inequality.{Inequality}
 use Rattle.row_forms.specs.declared.piece.Piece.{Piece}
-use Rattle.row_forms.specs.Columns.{columns_of, extent_of}
+use Rattle.row_forms.specs.Columns.{extent_of}
 use Rattle.row_forms.specs.Pieces.{factor_at}
 
 -- the term of a column, and none where its factor is 0

@@ -2,10 +2,6 @@ ghost use Rattle.std.specs.Prelude.{◌≡◌};
 
 use item_lists::Items;
 
-/// So many pieces, each with a factor of no more than the greatest volume, surely make a row whose sums fit. A row of
-/// one piece for each crude and each vessel of a plant has far fewer.
-pub const MOST_PIECES: usize = 64;
-
 /// Which entries of a slot are summed over. Places, operations and crudes are numbers of the plant, from 0.
 #[derive(Clone, Copy, Debug, PartialEq, Eq)]
 pub enum Which {

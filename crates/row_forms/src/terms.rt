@@ -1,7 +1,8 @@
 ghost use Rattle.std.specs.Prelude.{◌≡◌, ◌+◌, [], ◌∷◌, ◌++◌, length, OnOk, IfOk};
 ghost use Rattle.linear_form.specs.Rows.{HasEachOnce};
 ghost use Rattle.plant_model.specs.Parts.{op_count_of, crude_count_of};
-ghost use Rattle.row_forms.specs.Columns.{joined_below, column_of, vessel_column, amount_columns, operation_columns, slot_columns};
+ghost use Rattle.linear_form.specs.Listed.{column_of, vessel_column, amount_columns, operation_columns, columns_of_slot};
+ghost use Rattle.item_lists.specs.Joined.{joined_below};
 ghost use Rattle.row_forms.specs.Sizes.{HasSmallReach};
 ghost use Rattle.row_forms.specs.Terms.{piece_terms, terms_of};
 
@@ -102,7 +103,7 @@ fn push_slot(
 ) -> Result<(), AllocError>
     requires { HasSmallReach pieces.now }
     ensures { OnOk result (terms.new.items ≡ terms.old.items
-        ++ piece_terms plant.now pieces.now (slot_columns (op_count_of plant.now) (crude_count_of plant.now) slot)) }
+        ++ piece_terms plant.now pieces.now (columns_of_slot (op_count_of plant.now) (crude_count_of plant.now) slot)) }
 {
     if !reach_slot(pieces, slot) {
         return Ok(());
@@ -121,7 +122,7 @@ fn push_slots(
     requires { HasSmallReach pieces.now }
     ensures { OnOk result (terms.new.items ≡ terms.old.items
         ++ piece_terms plant.now pieces.now
-        (joined_below n (λ k. slot_columns (op_count_of plant.now) (crude_count_of plant.now) (k + 1)))) }
+        (joined_below n (λ k. columns_of_slot (op_count_of plant.now) (crude_count_of plant.now) (k + 1)))) }
 {
     for k in 0..n {
         push_slot(plant, pieces, k + 1, terms)?;

@@ -1,0 +1,5 @@
+mod FlowLaws
+mod TankLaws
+mod UnitLaws
+mod ChargeLaws
+mod HoldLaws

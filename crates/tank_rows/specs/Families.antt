@@ -22,11 +22,16 @@ abbrev pub into_place : ℤ → ℕ → ℕ → Figure → Piece
 into_place factor p last figure = piece_of factor 1 last (Into p) figure
 
 -- one, and one less than none
-abbrev plus : ℤ
+abbrev pub plus : ℤ
 plus = pos 1
 
-abbrev minus : ℤ
+abbrev pub minus : ℤ
 minus = neg_ℤ (pos 1)
+
+-- what is summed up lies within a range: side 0 has the upper end, and side 1 the lower one
+abbrev pub range_row : (ℤ → Piece) → ℕ × ℕ → ℕ → Inequality
+range_row piece range side =
+    if side == 0 then at_most (piece plus ∷ []) (pos range.1) else at_most (piece minus ∷ []) (neg_ℤ (pos range.0))
 
 -- what the place holds at first
 abbrev pub total_of : Parts → ℕ → ℤ
@@ -64,11 +69,7 @@ limit_row parts slot v k side =
 
 -- 9, sides 0 and 1: over all slots a charging tank gives no more than is demanded at most, and no less than at least
 abbrev pub demand_row : Parts → ℕ → ℕ → ℕ → Inequality
-demand_row parts n p side =
-    let demand = (place_of parts p).demand in
-    if side == 0
-    then at_most (from_place plus p n Volume ∷ []) (pos demand.1)
-    else at_most (from_place minus p n Volume ∷ []) (neg_ℤ (pos demand.0))
+demand_row parts n p side = range_row (λ factor. from_place factor p n Volume) (place_of parts p).demand side
 
 -- 10: over all slots a vessel gives of a crude no less than it has at first
 abbrev pub emptied_row : Parts → ℕ → ℕ → ℕ → Inequality
@@ -83,11 +84,7 @@ minutes_row parts n p side =
 
 -- 12, sides 0 and 1: a unit gets no more charges than it takes at most, and no fewer than at least
 abbrev pub charges_row : Parts → ℕ → ℕ → ℕ → Inequality
-charges_row parts n p side =
-    let charges = (place_of parts p).charges in
-    if side == 0
-    then at_most (into_place plus p n Choice ∷ []) (pos charges.1)
-    else at_most (into_place minus p n Choice ∷ []) (neg_ℤ (pos charges.0))
+charges_row parts n p side = range_row (λ factor. into_place factor p n Choice) (place_of parts p).charges side
 
 -- 16: in each slot a vessel waits no less than until the end of the unloading that fills the slot
 abbrev pub wait_row : Parts → ℕ → ℕ → Inequality

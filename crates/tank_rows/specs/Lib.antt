@@ -1,3 +1,4 @@
 pub mod Names
 pub mod Families
 pub mod TankRows
+pub mod Laws

@@ -5,8 +5,9 @@ ghost use Rattle.limits.specs.declared.TheConstants.{MOST_PROPERTY, MOST_VOLUME}
 ghost use Rattle.plant_model.specs.Parts.{place_count_of, place_of, op_count_of, op_of, crude_count_of, property_count_of, initial_amounts_of};
 ghost use Rattle.plant_model.specs.Sound.{HoldsCrude};
 ghost use Rattle.plant_model.specs.declared.details.OpKind.TheVariants.{Charge};
-ghost use Rattle.row_forms.specs.Sizes.{AreFewAndSmall};
-ghost use Rattle.tank_rows.specs.Families.{at_most, from_place, into_place, total_row, amount_row, excess_of, limit_piece, limit_row, demand_row, emptied_row, minutes_row, charges_row, wait_row};
+ghost use Rattle.row_forms.specs.Pieces.{piece_of};
+ghost use Rattle.row_forms.specs.Fits.{IsSmall};
+ghost use Rattle.tank_rows.specs.Families.{at_most, from_place, into_place, range_row, total_row, amount_row, excess_of, limit_piece, limit_row, demand_row, emptied_row, minutes_row, charges_row, wait_row};
 
 use item_lists::Items;
 use plant_model::Plant;
@@ -36,6 +37,27 @@ fn into_place(factor: i64, p: u8, last: u32, figure: Figure) -> Piece
     Piece::new(factor, 1, last, Which::Into(p), figure)
 }
 
+/// What the figures of the entries come to over the slots from 1 to n lies within the range: its upper end, or its lower
+/// one.
+fn range_row(
+    alloc: Global,
+    which: Which,
+    n: u32,
+    figure: Figure,
+    range: (u32, u32),
+    side: u16,
+) -> Result<Inequality, AllocError>
+    ensures value { IfOk result (λ row. row ≡ range_row (λ factor. piece_of factor 1 n which figure) range side) }
+    ensures small { IfOk result IsSmall }
+{
+    if side == 0 {
+        let pieces = vec![in alloc; Piece::new(1, 1, n, which, figure)]?;
+        return Ok(at_most(pieces, range.1.into()));
+    }
+    let pieces = vec![in alloc; Piece::new(-1, 1, n, which, figure)]?;
+    Ok(at_most(pieces, -i64::from(range.0)))
+}
+
 /// What the place holds at first.
 #[tactic(auto, unfolding(plant_model::specs::Parts::initial_of))]
 fn total(plant: &Plant, p: u8) -> u64
@@ -62,7 +84,7 @@ pub(crate) fn total_row(
     requires place { p < place_count_of plant.now }
     requires holds { HoldsCrude (place_of plant.now p).kind }
     ensures value { IfOk result (λ row. row ≡ total_row plant.now p slot side) }
-    ensures small { IfOk result (λ row. AreFewAndSmall row.pieces) }
+    ensures small { IfOk result IsSmall }
 {
     let place = plant.place(p);
     let total = total(plant, p) as i64;
@@ -91,7 +113,7 @@ pub(crate) fn amount_row(
     requires holds { HoldsCrude (place_of plant.now p).kind }
     requires crude { c < crude_count_of plant.now }
     ensures value { IfOk result (λ row. row ≡ amount_row plant.now p slot c) }
-    ensures small { IfOk result (λ row. AreFewAndSmall row.pieces) }
+    ensures small { IfOk result IsSmall }
 {
     let amount = Figure::Amount(c);
     let pieces = vec![in alloc;
@@ -110,15 +132,10 @@ pub(crate) fn demand_row(
 ) -> Result<Inequality, AllocError>
     requires place { p < place_count_of plant.now }
     ensures value { IfOk result (λ row. row ≡ demand_row plant.now n p side) }
-    ensures small { IfOk result (λ row. AreFewAndSmall row.pieces) }
+    ensures small { IfOk result IsSmall }
 {
-    let (low, high) = plant.place(p).demand;
-    if side == 0 {
-        let pieces = vec![in alloc; from_place(1, p, n, Figure::Volume)]?;
-        return Ok(at_most(pieces, high.into()));
-    }
-    let pieces = vec![in alloc; from_place(-1, p, n, Figure::Volume)]?;
-    Ok(at_most(pieces, -i64::from(low)))
+    let range = plant.place(p).demand;
+    range_row(alloc, Which::From(p), n, Figure::Volume, range, side)
 }
 
 pub(crate) fn emptied_row(
@@ -132,7 +149,7 @@ pub(crate) fn emptied_row(
     requires holds { HoldsCrude (place_of plant.now p).kind }
     requires crude { c < crude_count_of plant.now }
     ensures value { IfOk result (λ row. row ≡ emptied_row plant.now n p c) }
-    ensures small { IfOk result (λ row. AreFewAndSmall row.pieces) }
+    ensures small { IfOk result IsSmall }
 {
     let pieces = vec![in alloc; from_place(-1, p, n, Figure::Amount(c))]?;
     Ok(at_most(pieces, -i64::from(plant.initial(p, c))))
@@ -146,7 +163,7 @@ pub(crate) fn minutes_row(
     side: u16,
 ) -> Result<Inequality, AllocError>
     ensures value { IfOk result (λ row. row ≡ minutes_row plant.now n p side) }
-    ensures small { IfOk result (λ row. AreFewAndSmall row.pieces) }
+    ensures small { IfOk result IsSmall }
 {
     let horizon = i64::from(plant.horizon());
     if side == 0 {
@@ -172,15 +189,10 @@ pub(crate) fn charges_row(
 ) -> Result<Inequality, AllocError>
     requires place { p < place_count_of plant.now }
     ensures value { IfOk result (λ row. row ≡ charges_row plant.now n p side) }
-    ensures small { IfOk result (λ row. AreFewAndSmall row.pieces) }
+    ensures small { IfOk result IsSmall }
 {
-    let (low, high) = plant.place(p).charges;
-    if side == 0 {
-        let pieces = vec![in alloc; into_place(1, p, n, Figure::Choice)]?;
-        return Ok(at_most(pieces, high.into()));
-    }
-    let pieces = vec![in alloc; into_place(-1, p, n, Figure::Choice)]?;
-    Ok(at_most(pieces, -i64::from(low)))
+    let range = plant.place(p).charges;
+    range_row(alloc, Which::Into(p), n, Figure::Choice, range, side)
 }
 
 pub(crate) fn wait_row(
@@ -191,7 +203,7 @@ pub(crate) fn wait_row(
 ) -> Result<Inequality, AllocError>
     requires place { p < place_count_of plant.now }
     ensures value { IfOk result (λ row. row ≡ wait_row plant.now p slot) }
-    ensures small { IfOk result (λ row. AreFewAndSmall row.pieces) }
+    ensures small { IfOk result IsSmall }
 {
     plant.sound();
     let arrival = i64::from(plant.place(p).arrival);
@@ -246,7 +258,7 @@ pub(crate) fn limit_row(
     requires charge { (op_of plant.now v).kind ≡ Charge }
     requires property { k < property_count_of plant.now }
     ensures value { IfOk result (λ row. row ≡ limit_row plant.now slot v k side) }
-    ensures small { IfOk result (λ row. AreFewAndSmall row.pieces) }
+    ensures small { IfOk result IsSmall }
 {
     let mut pieces = Vec::new(alloc);
     for c in 0..plant.crude_count() {

@@ -1,7 +1,7 @@
 //! Rows by name.
 
 ghost use Rattle.std.specs.Prelude.{◌≡◌, IfOk, IfSome};
-ghost use Rattle.row_forms.specs.Sizes.{AreFewAndSmall};
+ghost use Rattle.row_forms.specs.Fits.{IsFitRow, IsSmall};
 ghost use Rattle.tank_rows.specs.TankRows.{tank_inequality, tank_row_of};
 
 use crate::families::{
@@ -13,7 +13,7 @@ use crate::names::{
 };
 use linear_form::Row;
 use plant_model::Plant;
-use row_forms::{Inequality, build_row, row_form_laws};
+use row_forms::{Inequality, fit_row};
 use slot_box::RowName;
 use std::alloc::{AllocError, Global};
 
@@ -26,7 +26,7 @@ fn inequality(
     name: RowName,
 ) -> Result<Option<Inequality>, AllocError>
     ensures value { IfOk result (λ row. row ≡ tank_inequality plant.now n name) }
-    ensures small { IfOk result (λ row. IfSome row (λ inequality. AreFewAndSmall inequality.pieces)) }
+    ensures small { IfOk result (λ row. IfSome row IsSmall) }
 {
     plant.sound();
     let RowName { family, a, b, c, d } = name;
@@ -64,11 +64,11 @@ pub fn tank_row(
     n: u32,
     name: RowName,
 ) -> Result<Option<Row>, AllocError>
-    ensures { IfOk result (λ row. row ≡ tank_row_of plant.now n name) }
+    ensures value { IfOk result (λ row. row ≡ tank_row_of plant.now n name) }
+    ensures fits { IfOk result (λ row. IfSome row (IsFitRow plant.now n)) }
 {
-    row_form_laws(plant);
     match inequality(alloc, plant, n, name)? {
-        Some(inequality) => Ok(Some(build_row(alloc, plant, n, &inequality)?)),
+        Some(inequality) => Ok(Some(fit_row(alloc, plant, n, &inequality)?)),
         None => Ok(None),
     }
 }

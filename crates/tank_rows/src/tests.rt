@@ -1,4 +1,4 @@
-use crate::tank_row;
+use crate::{tank_row, tank_row_laws};
 use linear_form::{Column, Part, RowTerm};
 use plant_model::Plant;
 use sample_plants::one_charge;
@@ -13,6 +13,7 @@ fn name(family: u8, a: u16, b: u16, c: u16, d: u16) -> RowName {
 #[test]
 fn rows_of_one_charge(rt: HostRuntime) -> Result<(), Fail> {
     let plant = Plant::new(rt.alloc(), one_charge().parts(rt.alloc())?)?;
+    tank_row_laws(&plant);
     for (name, part, factor, right) in [
         (name(5, 0, 1, 0, 0), Part::A(0), 1, 4),
         (name(5, 0, 1, 1, 0), Part::A(0), -1, 6),

@@ -1,5 +1,5 @@
 -- What stands at the end of a word that breaks no rule.
-use Rattle.std.proofs.Common.{◌≡◌, ℕ, ◌+◌, ◌<◌, Bool, true, List, [], ◌++◌, length, get_or, sum, ap, subst, arith}
+use Rattle.std.proofs.Common.{◌≡◌, ℕ, ◌+◌, ◌<◌, Bool, true, List, [], ◌++◌, get_or, sum, ap, subst, arith}
 use Rattle.std.specs.Prelude.{not, ◌&&◌, ◌||◌, ◌==◌}
 use Rattle.std.proofs.lemmas.Bool.{and_parts, eqb-true}
 use Rattle.item_lists.specs.Faults.{unless}
@@ -8,13 +8,13 @@ use Rattle.plant_model.specs.declared.parts.Parts.{Parts}
 use Rattle.plant_model.specs.declared.details.PlaceInfo.{PlaceInfo}
 use Rattle.plant_model.specs.declared.details.PlaceKind.TheVariants.{Vessel, Charging, Unit as DistillationUnit}
 use Rattle.plant_model.specs.Parts.{no_place, horizon_of, place_count_of, places_of, place_of}
+use Rattle.plant_model.proofs.PlaceLists.{length-places_of}
 use Rattle.replay_core.specs.declared.timed.Timed.{Timed}
 use Rattle.replay_core.specs.declared.order.Order.{Order}
 use Rattle.replay_core.specs.State.{held_of, state_after}
 use Rattle.replay_core.specs.Counts.{charges_of, minutes_of, charged_of}
 use Rattle.replay_core.specs.Rules.{is_inside, is_vessel, is_charging, is_unit, is_emptied, meets_demand, meets_charges}
 use Rattle.replay_core.specs.Legal.{broken, step_faults, faults_at_places, vessel_faults, demand_faults, unit_faults, end_faults, plan_faults, first_broken_in, IsLegalIn}
-use Rattle.replay_core.proofs.PlaceLists.{length-per_place}
 use Rattle.replay_core.proofs.StepLaws.{CanRun-legal}
 use Rattle.word_flows.specs.Ends.{EndsWell, LegalWordsEndWell}
 use Rattle.word_flows.specs.Steps.{IsInside}
@@ -22,10 +22,6 @@ use Rattle.word_flows.proofs.RunLaws.{can_run_is_run}
 use Rattle.word_flows.proofs.StepLaws.{asked, inside}
 
 -- ---- at each place
-
-length-places_of : (parts : Parts) → length (places_of parts) ≡ place_count_of parts
-unfolding places_of
-length-places_of parts = length-per_place _ _ _ _ parts
 
 holds_at_place : (parts : Parts) (rule : ℕ) (holds : ℕ → PlaceInfo → Bool) → faults_at_places parts rule holds ≡ [] → (p : ℕ) → p < place_count_of parts →
     holds p (place_of parts p) ≡ true

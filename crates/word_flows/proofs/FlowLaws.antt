@@ -1,10 +1,9 @@
 -- What goes out of a place and into it: one operation, and then a whole run.
-use Rattle.std.proofs.Common.{◌≡◌, ℕ, zero, suc, ◌+◌, ◌<◌, ◌≤◌, inl, inr, if◌then◌else◌, List, [], ◌∷◌, length, take, get_or, sum, sym, ap, refl, ◌∙◌, arith}
+use Rattle.std.proofs.Common.{◌≡◌, ℕ, zero, suc, ◌+◌, ◌<◌, ◌≤◌, inl, inr, if◌then◌else◌, List, length, take, get_or, sum, sym, ap, refl, ◌∙◌, arith}
 use Rattle.std.specs.Prelude.{◌==◌}
 use Rattle.std.proofs.lemmas.List.{take_all}
 use Rattle.std.proofs.lemmas.Bool.{cases_eq, cases_lt, eq-eqb, ne_eqb, lt-ltb, le-ltb}
-use Rattle.crude_amounts.specs.Amounts.{mix_of, rest_of}
-use Rattle.crude_amounts.proofs.MixLaws.{sum-mix_of, sum-rest_of}
+use Rattle.crude_amounts.proofs.MixLaws.{sum-mix_of, sum-rest_of, crude-taken, crude-added}
 use Rattle.crude_amounts.proofs.DrawLaws.{draw_of-within}
 use Rattle.plant_model.specs.declared.parts.Parts.{Parts}
 use Rattle.plant_model.specs.Parts.{op_of}
@@ -12,9 +11,10 @@ use Rattle.plant_model.specs.Sound.{SoundPlant}
 use Rattle.replay_core.specs.declared.timed.Timed.{Timed}
 use Rattle.replay_core.specs.State.{initial_state, held_of, drawn_of, after_step, state_after}
 use Rattle.replay_core.specs.inside.Levels.{HoldsWithin}
+use Rattle.replay_core.specs.Steps.{step_at}
 use Rattle.replay_core.proofs.RuleLaws.{RunsSoundly}
 use Rattle.replay_core.proofs.StateLaws.{places_apart, moved-source, moved-target, moved-other, drawn-crudes, held-first}
-use Rattle.word_flows.specs.Runs.{step_at, IsRun}
+use Rattle.word_flows.specs.Runs.{IsRun}
 use Rattle.word_flows.specs.Flows.{held_after, out_of, into, amount_of, IsAdditive, RunsBalance, BeginsAsGiven}
 use Rattle.word_flows.proofs.RunLaws.{soundly, state-next, holds_within-run}
 
@@ -22,21 +22,6 @@ use Rattle.word_flows.proofs.RunLaws.{soundly, state-next, holds_within-run}
 
 pub total_is_additive : IsAdditive sum
 total_is_additive = record { taken = sum-rest_of; added = sum-mix_of }
-
-crude-taken : (c : ℕ) (held drawn : List ℕ) → length drawn ≡ length held → ((d : ℕ) → get_or drawn d 0 ≤ get_or held d 0) →
-    get_or (rest_of held drawn) c 0 + get_or drawn c 0 ≡ get_or held c 0
-crude-taken c [] [] same there = omega arith
-crude-taken c [] (x ∷ drawn) same there = absurd (omega arith)
-crude-taken c (h ∷ held) [] same there = absurd (omega arith)
-crude-taken zero (h ∷ held) (x ∷ drawn) same there = let first : x ≤ h = there 0 in omega arith
-crude-taken (suc c) (h ∷ held) (x ∷ drawn) same there = crude-taken c held drawn (omega arith) (λ d. there (suc d))
-
-crude-added : (c : ℕ) (held drawn : List ℕ) → length drawn ≡ length held → get_or (mix_of held drawn) c 0 ≡ get_or held c 0 + get_or drawn c 0
-crude-added c [] [] same = omega arith
-crude-added c [] (x ∷ drawn) same = absurd (omega arith)
-crude-added c (h ∷ held) [] same = absurd (omega arith)
-crude-added zero (h ∷ held) (x ∷ drawn) same = refl
-crude-added (suc c) (h ∷ held) (x ∷ drawn) same = crude-added c held drawn (omega arith)
 
 pub crude_is_additive : (c : ℕ) → IsAdditive (amount_of c)
 crude_is_additive c = record { taken = crude-taken c; added = crude-added c }

@@ -5,7 +5,7 @@ use Rattle.std.proofs.lemmas.Bool.{cases_Bool, cases_lt}
 use Rattle.plant_model.specs.declared.parts.Parts.{Parts}
 use Rattle.replay_core.specs.declared.timed.Timed.{Timed}
 use Rattle.replay_core.specs.Counts.{unloads_from, last_end_of}
-use Rattle.word_flows.specs.Runs.{step_at}
+use Rattle.replay_core.specs.Steps.{step_at}
 use Rattle.word_flows.specs.LastEnds.{Unloads, LastEndsAreReached}
 
 -- the latest so far, once the operation has been looked at

@@ -10,10 +10,11 @@ use Rattle.plant_model.specs.Sound.{SoundPlant}
 use Rattle.replay_core.specs.declared.timed.Timed.{Timed}
 use Rattle.replay_core.specs.State.{initial_state, held_of, state_after}
 use Rattle.replay_core.specs.Rules.{is_unit}
+use Rattle.replay_core.specs.Steps.{step_at}
 use Rattle.replay_core.proofs.RuleLaws.{minimum-left}
 use Rattle.replay_core.proofs.StateLaws.{drawn-volume, held-first, holds_crude}
 use Rattle.replay_core.proofs.PlaceLists.{at_each_place}
-use Rattle.word_flows.specs.Runs.{step_at, IsRun}
+use Rattle.word_flows.specs.Runs.{IsRun}
 use Rattle.word_flows.specs.Flows.{held_after}
 use Rattle.word_flows.specs.Levels.{is_tank, MinimumsAreKept, MaximumsAreKept}
 use Rattle.word_flows.proofs.RunLaws.{places_kept, soundly}
@@ -38,7 +39,7 @@ tank_holds_crude Charging is = (refl, λ same. cc)
 tank_holds_crude DistillationUnit is = cc
 
 -- a tank holds its minimum at first and no more than its maximum
-tank-first : (parts : Parts) (p : ℕ) → SoundPlant parts → p < place_count_of parts → is_tank (place_of parts p).kind ≡ true →
+pub tank-first : (parts : Parts) (p : ℕ) → SoundPlant parts → p < place_count_of parts → is_tank (place_of parts p).kind ≡ true →
     ((place_of parts p).min ≤ sum (held_of (initial_state parts) p)) × (sum (held_of (initial_state parts) p) ≤ (place_of parts p).max)
 tank-first parts p sound within is =
     let kind = tank_holds_crude (place_of parts p).kind is in

@@ -3,13 +3,13 @@ use Rattle.std.proofs.Common.{◌≡◌, ℕ, ◌<◌, ◌≤◌, inl, inr, true
 use Rattle.std.specs.Prelude.{not, ◌||◌, nat_le}
 use Rattle.std.proofs.lemmas.List.{get_or-take, length-take-le}
 use Rattle.std.proofs.lemmas.Bool.{cases_lt, leb-true, lt-ltb}
+use Rattle.item_lists.proofs.ListLaws.{each_passes}
 use Rattle.plant_model.specs.declared.parts.Parts.{Parts}
 use Rattle.plant_model.specs.Parts.{op_of}
 use Rattle.plant_model.specs.Relations.{share_berth, refused_at_once_of}
-use Rattle.plant_model.proofs.FaultTests.{each_passes}
 use Rattle.replay_core.specs.declared.timed.Timed.{Timed}
 use Rattle.replay_core.specs.Rules.{waits_for_others, unloads_later_vessel, keeps_vessel_order}
-use Rattle.word_flows.specs.Runs.{no_step, step_at}
+use Rattle.replay_core.specs.Steps.{no_step, step_at}
 use Rattle.word_flows.specs.Pairs.{RunsWait, VesselsTakeTurns}
 use Rattle.word_flows.proofs.RunLaws.{places_kept}
 

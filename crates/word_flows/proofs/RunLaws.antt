@@ -3,18 +3,18 @@ use Rattle.std.proofs.Common.{◌≡◌, ℕ, zero, suc, ◌+◌, ◌<◌, ◌�
 use Rattle.std.proofs.lemmas.List.{take-append-drop, drop_more, take_more, take_all}
 use Rattle.item_lists.proofs.FaultLaws.{holds_of_nil}
 use Rattle.plant_model.specs.declared.parts.Parts.{Parts}
-use Rattle.plant_model.specs.Parts.{op_of}
-use Rattle.plant_model.specs.Sound.{SoundOp, SoundPlant}
+use Rattle.plant_model.specs.Sound.{SoundPlant}
 use Rattle.replay_core.specs.declared.timed.Timed.{Timed}
 use Rattle.replay_core.specs.declared.order.Order.{Order}
 use Rattle.replay_core.specs.State.{state_after, after_step}
 use Rattle.replay_core.specs.Rules.{keeps_order}
 use Rattle.replay_core.specs.Legal.{broken, order_faults, op_faults, CanRun}
 use Rattle.replay_core.specs.inside.Levels.{HoldsWithin}
-use Rattle.replay_core.proofs.RuleLaws.{KeepsOwnRules, KeepsPlaceRules, KeepsRules, own_rules_kept, place_rules_kept, rules_kept, RunsSoundly, known-below, lasts-below, volume-inside, window-kept, minimum-left, maximum-kept}
+use Rattle.replay_core.specs.Steps.{no_step, step_at}
+use Rattle.replay_core.proofs.RuleLaws.{KeepsOwnRules, KeepsPlaceRules, KeepsRules, own_rules_kept, place_rules_kept, rules_kept, RunsSoundly, in_range, sound_by_rules}
 use Rattle.replay_core.proofs.StateLaws.{holds_within-first, holds_within-after, state_after_push}
 use Rattle.replay_core.proofs.StepLaws.{op_faults-accepted, CanRun_push, CanRun-nil}
-use Rattle.word_flows.specs.Runs.{no_step, step_at, Runs, IsRun, KeepsOrder, CanRunAsRuns}
+use Rattle.word_flows.specs.Runs.{Runs, IsRun, KeepsOrder, CanRunAsRuns}
 use Rattle.word_flows.specs.Steps.{RunsAreInRange}
 
 -- ---- where no rule is broken
@@ -79,43 +79,15 @@ pub places_kept : (parts : Parts) (word : List Timed) (k : ℕ) → IsRun parts 
 places_kept parts word k run within = place_rules_kept parts (take k word) (step_at word k) (length (take k word) + 1) (run k within).places
 
 pub runs_are_in_range : (parts : Parts) → RunsAreInRange parts
-runs_are_in_range parts word k run within =
-    let t = step_at word k in
-    let own = own_kept parts word k run within in
-    let window = window-kept parts t own.window in
-    let volume = volume-inside parts t own.volume in
-    record {
-      known = known-below parts t own.known;
-      lasts = lasts-below t own.lasts;
-      from_window = window.0;
-      to_window = window.1;
-      least = volume.0;
-      most = volume.1;
-    }
+runs_are_in_range parts word k run within = in_range parts (step_at word k) (length (take k word) + 1) (run k within).own
 
 -- ---- the state along a run
 
 pub soundly : (parts : Parts) (word : List Timed) (k : ℕ) → SoundPlant parts → IsRun parts word → k < length word →
     RunsSoundly parts (state_after parts (take k word)) (step_at word k)
 soundly parts word k sound run within =
-    let t = step_at word k in
-    let state = state_after parts (take k word) in
-    let range = runs_are_in_range parts word k run within in
-    let places = places_kept parts word k run within in
-    let left = minimum-left parts state t places.minimum in
-    let horizon = sound.horizon in
-    let op : SoundOp parts (op_of parts t.op) = sound.each_op t.op range.known in
-    let volumes = op.volume in
-    record {
-      known = range.known;
-      sound = op;
-      lasts = range.lasts;
-      in_horizon = (let last = op.within_horizon in let end = range.to_window in omega arith);
-      some = (let least = range.least in omega arith);
-      most = (let most = range.most in omega arith);
-      there = omega arith;
-      room = maximum-kept parts state t places.maximum;
-    }
+    let runs = run k within in
+    sound_by_rules parts (take k word) (step_at word k) (length (take k word) + 1) sound runs.own runs.places
 
 -- once operation k has run too
 pub state-next : (parts : Parts) (word : List Timed) (k : ℕ) → k < length word →

@@ -4,17 +4,17 @@ use Rattle.std.specs.Prelude.{not, ◌||◌, nat_le}
 use Rattle.std.specs.List.{list_all, range_with_len}
 use Rattle.std.proofs.lemmas.List.FromFn.{length-range_with_len, get_or-range_with_len}
 use Rattle.std.proofs.lemmas.Bool.{and_parts, leb-true}
+use Rattle.item_lists.proofs.ListLaws.{each_passes}
 use Rattle.plant_model.specs.declared.parts.Parts.{Parts}
 use Rattle.plant_model.specs.declared.details.OpKind.TheVariants.{Charge}
 use Rattle.plant_model.specs.Parts.{property_count_of, op_of, limit_of}
 use Rattle.plant_model.specs.Relations.{is_charge}
 use Rattle.plant_model.specs.Sound.{SoundPlant}
-use Rattle.plant_model.proofs.FaultTests.{each_passes}
 use Rattle.replay_core.specs.declared.timed.Timed.{Timed}
 use Rattle.replay_core.specs.State.{drawn_of, state_after}
 use Rattle.replay_core.specs.Rules.{is_inside, meets_rate, content_of, meets_limit, meets_limits}
+use Rattle.replay_core.specs.Steps.{step_at}
 use Rattle.replay_core.proofs.StateLaws.{drawn-volume}
-use Rattle.word_flows.specs.Runs.{step_at}
 use Rattle.word_flows.specs.Steps.{IsInside, MeetsRate, RunsMeetRates, RunsDrawVolumes, MeetsLimit, RunsMeetLimits}
 use Rattle.word_flows.proofs.RunLaws.{own_kept, places_kept, soundly}
 

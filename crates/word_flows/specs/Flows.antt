@@ -6,16 +6,13 @@ use Rattle.plant_model.specs.declared.parts.Parts.{Parts}
 use Rattle.plant_model.specs.Parts.{op_of, place_count_of, place_of, initial_amounts_of}
 use Rattle.plant_model.specs.Sound.{HoldsCrude}
 use Rattle.replay_core.specs.declared.timed.Timed.{Timed}
-use Rattle.replay_core.specs.State.{initial_state, held_of, state_after, draw_at}
-use Rattle.word_flows.specs.Runs.{step_at, IsRun}
+use Rattle.replay_core.specs.State.{initial_state, held_of, state_after}
+use Rattle.replay_core.specs.Steps.{step_at, draw_in}
+use Rattle.word_flows.specs.Runs.{IsRun}
 
 -- what place p holds once the first k operations have run, crude by crude
 abbrev pub held_after : Parts → List Timed → ℕ → ℕ → List ℕ
 held_after parts word p k = held_of (state_after parts (take k word)) p
-
--- what operation k draws from its source, crude by crude
-abbrev pub drawn_by : Parts → List Timed → ℕ → List ℕ
-drawn_by parts word k = draw_at parts (take k word) (step_at word k)
 
 -- the word has an operation k, and it draws from place p
 abbrev pub draws_from : Parts → List Timed → ℕ → ℕ → Bool
@@ -30,11 +27,11 @@ fills parts word p k = nat_lt k (length word) && (op_of parts (step_at word k).o
 -- what the first n operations draw from place p
 abbrev pub out_of : (List ℕ → ℕ) → Parts → List Timed → ℕ → ℕ → ℕ
 out_of number parts word p n =
-    sum_below n (λ k. if draws_from parts word p k then number (drawn_by parts word k) else 0)
+    sum_below n (λ k. if draws_from parts word p k then number (draw_in parts word k) else 0)
 
 -- what they fill into it
 abbrev pub into : (List ℕ → ℕ) → Parts → List Timed → ℕ → ℕ → ℕ
-into number parts word p n = sum_below n (λ k. if fills parts word p k then number (drawn_by parts word k) else 0)
+into number parts word p n = sum_below n (λ k. if fills parts word p k then number (draw_in parts word k) else 0)
 
 -- how much of crude c there is in amounts
 abbrev pub amount_of : ℕ → List ℕ → ℕ

@@ -3,7 +3,7 @@ use Rattle.std.specs.Prelude.{◌≡◌, ℕ, ◌<◌, ◌≤◌, IsTrue, List, 
 use Rattle.plant_model.specs.declared.parts.Parts.{Parts}
 use Rattle.replay_core.specs.declared.timed.Timed.{Timed}
 use Rattle.replay_core.specs.Counts.{unloads_from, last_end_of}
-use Rattle.word_flows.specs.Runs.{step_at}
+use Rattle.replay_core.specs.Steps.{step_at}
 
 -- operation k of the word unloads vessel p
 pub record Unloads (parts : Parts) (word : List Timed) (p k : ℕ) : Type 0 where

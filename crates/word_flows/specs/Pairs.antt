@@ -4,7 +4,8 @@ use Rattle.plant_model.specs.declared.parts.Parts.{Parts}
 use Rattle.plant_model.specs.Parts.{op_of}
 use Rattle.plant_model.specs.Relations.{share_berth, refused_at_once_of}
 use Rattle.replay_core.specs.declared.timed.Timed.{Timed}
-use Rattle.word_flows.specs.Runs.{step_at, IsRun}
+use Rattle.replay_core.specs.Steps.{step_at}
+use Rattle.word_flows.specs.Runs.{IsRun}
 
 -- of two that may not run at one moment the later one waits for the end of the first
 abbrev pub RunsWait : Parts → Type 0

@@ -1,18 +1,11 @@
 -- Words whose operations run one after the other, each keeping every rule but perhaps that on the order.
-use Rattle.std.specs.Prelude.{◌≡◌, ◌↔◌, ℕ, ◌+◌, ◌<◌, IsTrue, List, [], length, take, slice_index_or}
+use Rattle.std.specs.Prelude.{◌≡◌, ◌↔◌, ℕ, ◌+◌, ◌<◌, IsTrue, List, [], length, take}
 use Rattle.plant_model.specs.declared.parts.Parts.{Parts}
 use Rattle.replay_core.specs.declared.timed.Timed.{Timed}
 use Rattle.replay_core.specs.declared.order.Order.{Order}
 use Rattle.replay_core.specs.Rules.{keeps_order}
 use Rattle.replay_core.specs.Legal.{own_faults, place_faults, CanRun}
-
--- no operation: what is read past the last one of a word
-abbrev pub no_step : Timed
-no_step = record { op = 255; start = 0; end = 0; volume = 0 }
-
--- operation k of the word, counted from 0
-abbrev pub step_at : List Timed → ℕ → Timed
-step_at word k = slice_index_or word k no_step
+use Rattle.replay_core.specs.Steps.{step_at}
 
 -- the operation breaks no rule, but perhaps that on the order, where those others have run before it
 pub record Runs (parts : Parts) (before : List Timed) (t : Timed) : Type 0 where

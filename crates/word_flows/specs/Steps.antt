@@ -6,8 +6,8 @@ use Rattle.plant_model.specs.Parts.{property_count_of, op_of, limit_of}
 use Rattle.replay_core.specs.declared.timed.Timed.{Timed}
 use Rattle.replay_core.specs.Rules.{content_of}
 use Rattle.replay_core.specs.Legal.{IsInRange}
-use Rattle.word_flows.specs.Runs.{step_at, IsRun}
-use Rattle.word_flows.specs.Flows.{drawn_by}
+use Rattle.replay_core.specs.Steps.{step_at, draw_in}
+use Rattle.word_flows.specs.Runs.{IsRun}
 
 -- the number lies in the range, its ends among it
 pub record IsInside (range : ℕ × ℕ) (n : ℕ) : Type 0 where
@@ -35,7 +35,7 @@ RunsMeetRates parts =
 abbrev pub RunsDrawVolumes : Parts → Type 0
 RunsDrawVolumes parts =
     (word : List Timed) (k : ℕ) → IsRun parts word → k < length word
-    → sum (drawn_by parts word k) ≡ (step_at word k).volume
+    → sum (draw_in parts word k) ≡ (step_at word k).volume
 
 -- what the charge draws has the property within its limits, for the volume as a whole
 abbrev pub MeetsLimit : Parts → Timed → List ℕ → ℕ → Type 0
@@ -48,4 +48,4 @@ abbrev pub RunsMeetLimits : Parts → Type 0
 RunsMeetLimits parts =
     (word : List Timed) (k property : ℕ) → IsRun parts word → k < length word
     → (op_of parts (step_at word k).op).kind ≡ Charge → property < property_count_of parts
-    → MeetsLimit parts (step_at word k) (drawn_by parts word k) property
+    → MeetsLimit parts (step_at word k) (draw_in parts word k) property

@@ -6,7 +6,8 @@ use Rattle.plant_model.specs.declared.details.PlaceKind.TheVariants.{Charging}
 use Rattle.plant_model.specs.Parts.{place_of}
 use Rattle.replay_core.specs.declared.timed.Timed.{Timed}
 use Rattle.replay_core.specs.Counts.{charges_unit, charges_from, charges_of, minutes_of, charged_of}
-use Rattle.word_flows.specs.Runs.{step_at, IsRun}
+use Rattle.replay_core.specs.Steps.{step_at}
+use Rattle.word_flows.specs.Runs.{IsRun}
 use Rattle.word_flows.specs.Flows.{out_of}
 
 -- the numbers of the operations that the test chooses, summed over the word

@@ -1,9 +1,11 @@
 use Rattle.std.proofs.Common.{◌≤◌, arith}
+use Rattle.linear_form.specs.Listed.{columns_of}
+use Rattle.linear_form.proofs.ListedLaws.{columns-apart}
 use Rattle.plant_model.specs.Parts.{op_count_of}
-use Rattle.row_forms.specs.Columns.{extent_of, columns_of}
+use Rattle.row_forms.specs.Columns.{extent_of}
 use Rattle.row_forms.specs.Pieces.{factor_at}
 use Rattle.row_forms.proofs.OfColumnLaws.{columns_are_few, terms_are_of_columns}
-use Rattle.row_forms.proofs.OnceLaws.{columns-apart, terms-once}
+use Rattle.row_forms.proofs.OnceLaws.{terms-once}
 use Rattle.row_forms.proofs.PieceLaws.{figures_are_of_operations, one_slot_is_its_figure, first_slots_are_their_figures, wait_is_the_vessels}
 use Rattle.row_forms.proofs.RunLaws.{fits-run}
 use Rattle.row_forms.proofs.TermLaws.{terms_are_small, few_pieces_reach_little}

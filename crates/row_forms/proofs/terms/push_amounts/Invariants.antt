@@ -1,6 +1,7 @@
 use Rattle.std.proofs.Common.{◌≡◌, [], ◌∷◌, ◌++◌}
+use Rattle.item_lists.specs.Joined.{joined_below}
 use Rattle.linear_form.specs.declared.column.Part.TheVariants.{A}
-use Rattle.row_forms.specs.Columns.{joined_below, column_of}
+use Rattle.linear_form.specs.Listed.{column_of}
 use Rattle.row_forms.specs.Terms.{piece_terms}
 use Rattle.row_forms.proofs.terms.push_amounts.Given as goal
 

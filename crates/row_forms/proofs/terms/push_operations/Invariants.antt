@@ -1,6 +1,7 @@
 use Rattle.std.proofs.Common.{◌≡◌, ◌++◌}
+use Rattle.item_lists.specs.Joined.{joined_below}
+use Rattle.linear_form.specs.Listed.{operation_columns}
 use Rattle.plant_model.specs.Parts.{crude_count_of}
-use Rattle.row_forms.specs.Columns.{joined_below, operation_columns}
 use Rattle.row_forms.specs.Terms.{piece_terms}
 use Rattle.row_forms.proofs.terms.push_operations.Given as goal
 

@@ -1,5 +1,6 @@
 use Rattle.std.proofs.Common.{◌≡◌, [], ◌∷◌, ◌++◌}
-use Rattle.row_forms.specs.Columns.{joined_below, vessel_column}
+use Rattle.item_lists.specs.Joined.{joined_below}
+use Rattle.linear_form.specs.Listed.{vessel_column}
 use Rattle.row_forms.specs.Terms.{piece_terms}
 use Rattle.row_forms.proofs.terms.push_waits.Given as goal
 

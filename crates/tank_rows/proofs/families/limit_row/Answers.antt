@@ -24,6 +24,9 @@ loop-c-preserved c = record {
 
 pub returns-clause-small : goal.returns-clause-small
 returns-clause-small c = rw c.at_most.ensures (record {
-  few = omega (arith, c.loop-c.invariant.few, c.crude_count-c-end.ensures.most);
-  small = c.loop-c.invariant.small;
+  pieces = record {
+    few = omega (arith, c.loop-c.invariant.few, c.crude_count-c-end.ensures.most);
+    small = c.loop-c.invariant.small;
+  };
+  right = omega arith;
 })

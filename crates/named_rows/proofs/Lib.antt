@@ -1,0 +1,4 @@
+mod RangeLaws
+mod ObjectiveLaws
+mod BoundLaws
+mod NarrowLaws

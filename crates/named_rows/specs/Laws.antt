@@ -1,0 +1,71 @@
+-- What rows that have names say of the forms in a box.
+use Rattle.std.specs.Prelude.{◌≡◌, ℕ, ◌≤◌, pos, ◌≤ℤ◌, ◌<ℤ◌, IsTrue, List, length, All}
+use Rattle.dual_bound.specs.Conditions.{IsWithin}
+use Rattle.dual_bound.specs.Dual.{dual_value, emptiness_sum}
+use Rattle.linear_form.specs.Points.{LiesIn, value_at}
+use Rattle.linear_form.specs.Rows.{RowForm}
+use Rattle.normal_order.specs.NormalWords.{IsNormalWord}
+use Rattle.plant_model.specs.declared.parts.Parts.{Parts}
+use Rattle.replay_core.specs.declared.order.Order.{Order}
+use Rattle.replay_core.specs.Legal.{IsLegalIn}
+use Rattle.replay_core.specs.Margin.{margin_of}
+use Rattle.row_forms.specs.Numbers.{numbers_of}
+use Rattle.slot_box.specs.declared.slot.Slot.{Slot}
+use Rattle.slot_box.specs.declared.term.RowName.{RowName}
+use Rattle.slot_box.specs.declared.split.Split.{Split}
+use Rattle.slot_box.specs.Boxes.{IsBox, IsPoint}
+use Rattle.slot_box.specs.Entries.{Entry}
+use Rattle.slot_box.specs.Splits.{IsLawfulSplit, left_of, right_of}
+use Rattle.slot_forms.specs.Forms.{word_of, is_form}
+use Rattle.slot_rows.specs.Objective.{objective_of}
+use Rattle.slot_rows.specs.Ranges.{ranges_of}
+use Rattle.named_rows.specs.NamedRows.{IsNamed}
+
+-- each row has a name, of which something is so
+abbrev pub AreNamed : Parts → ℕ → (RowName → Type 0) → List RowForm → Type 0
+AreNamed parts n May rows = All (λ row. (name : RowName) × IsNamed parts n name row × May name) rows
+
+-- a form in the box: a point of it whose word breaks no rule, whatever order is asked for
+pub record IsFormIn (parts : Parts) (order : Order) (box : List Slot) (point : List Entry) : Type 0 where
+  pub there : IsPoint box point
+  pub form : IsTrue (is_form point)
+  pub legal : IsLegalIn parts order (word_of point)
+
+-- the name is not one of normal order, unless the word is normal
+abbrev pub MayBe : Parts → List Entry → RowName → Type 0
+MayBe parts point name = name.family ≡ 13 → IsNormalWord parts (word_of point)
+
+-- the numbers of a form in a box lie in the ranges of the box
+abbrev pub FormsLieInRanges : Parts → Type 0
+FormsLieInRanges parts =
+    (order : Order) (box : List Slot) (point : List Entry) → IsFormIn parts order box point →
+    LiesIn (ranges_of parts box) (numbers_of parts (word_of point))
+
+-- and the objective comes to its margin there
+abbrev pub ObjectivesAreMargins : Parts → Type 0
+ObjectivesAreMargins parts =
+    (order : Order) (box : List Slot) (point : List Entry) → IsFormIn parts order box point →
+    value_at (objective_of parts (length box)) (numbers_of parts (word_of point)) ≡ margin_of parts (word_of point)
+
+-- no form in a box has a margin above the dual value of named rows over the box, whatever their multipliers; rows of
+-- normal order bound normal words alone
+abbrev pub DualValuesBoundMargins : Parts → Type 0
+DualValuesBoundMargins parts =
+    (order : Order) (box : List Slot) (point : List Entry) (rows : List RowForm) (multipliers : List ℕ) (q : ℕ) →
+    IsFormIn parts order box point → AreNamed parts (length box) (MayBe parts point) rows → 1 ≤ q →
+    margin_of parts (word_of point)
+    ≤ℤ dual_value rows (ranges_of parts box) (objective_of parts (length box)) multipliers q
+
+-- a box whose emptiness sum by named rows is below 0 has no form
+abbrev pub EmptyBoxesHaveNoForm : Parts → Type 0
+EmptyBoxesHaveNoForm parts =
+    (order : Order) (box : List Slot) (point : List Entry) (rows : List RowForm) (multipliers : List ℕ) →
+    AreNamed parts (length box) (MayBe parts point) rows →
+    emptiness_sum rows (ranges_of parts box) multipliers <ℤ pos 0 → IsFormIn parts order box point → ⊥
+
+-- the parts of a lawful split have ranges within those of the box
+abbrev pub PartsHaveNarrowerRanges : Parts → Type 0
+PartsHaveNarrowerRanges parts =
+    (box : List Slot) (split : Split) → IsBox box → IsLawfulSplit box split →
+    IsWithin (ranges_of parts (left_of box split)) (ranges_of parts box)
+    × IsWithin (ranges_of parts (right_of box split)) (ranges_of parts box)

@@ -1,0 +1,2 @@
+pub mod NamedRows
+pub mod Laws

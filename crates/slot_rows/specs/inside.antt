@@ -1,0 +1,2 @@
+-- What only loops and helpers of this crate keep.
+pub mod Given
