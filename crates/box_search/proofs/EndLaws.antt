@@ -2,6 +2,7 @@
 use Rattle.std.proofs.Common.{◌≡◌, ℕ, ℤ, inl, inr, ◌+◌, ◌-◌, ◌<◌, ◌≤◌, zero, suc, Option, Some, None, List, [], ◌∷◌, length, refl, sym, ◌∙◌, subst, arith, get_or}
 use Rattle.std.specs.Prelude.{◌⊎◌, IfSome, slice_get}
 use Rattle.std.proofs.lemmas.Option.{slice_get_within, slice_get-get_or}
+use Rattle.number_laws.specs.Missing.{IsAtMost}
 use Rattle.slot_box.specs.declared.node.Leaf.{Leaf as LeafKind}
 use Rattle.slot_box.specs.declared.node.Leaf.TheVariants.{Dead, Void, Dual, Undone, Point}
 use Rattle.slot_box.specs.declared.node.Node.{Node}
@@ -21,7 +22,6 @@ use Rattle.box_search.specs.declared.search.Search.{Search}
 use Rattle.box_search.specs.Searched.{IsFound}
 use Rattle.box_search.specs.inside.Searching.{IsClosed, IsSettled, IsFoundValue, IsUnderway, IsSearch}
 use Rattle.box_search.specs.Searched.{best_margin}
-use Rattle.leaf_value.specs.LeafValue.{IsAtMost}
 use Rattle.box_search.proofs.GrowthLaws.{IsBoxAt-from_HasBox}
 
 -- the box of a leaf has at most the spare points of the tree beside one
@@ -136,6 +136,7 @@ IsFound-end parts n budget search is none = record {
   lawful = lawful (plain_setting parts n) budget search.tickets search.tree is.boxes (best_margin search.best) search.bound state;
   bound = bound_is (plain_setting parts n) budget search.tickets search.tree is.boxes (best_margin search.best) search.bound state;
   plan = is.plan;
+  built = is.built;
   budget_kept = budget_kept (plain_setting parts n) budget search.tickets search.tree is.boxes (best_margin search.best) search.bound state;
 }
   where

@@ -2,7 +2,10 @@
 use Rattle.std.proofs.Common.{◌≡◌, ℕ, ℤ, pos, inl, inr, ◌+◌, ◌-◌, ◌*◌, ◌<◌, ◌≤◌, Option, Some, None, List, [], ◌∷◌, ◌++◌, length, set, zero, suc, refl, sym, ap, ◌∙◌, subst, arith}
 use Rattle.std.specs.Prelude.{◌⊎◌, IfSome, slice_get, option_map}
 use Rattle.std.specs.List.{AllByRecursion}
+use Rattle.std.proofs.lemmas.Int.{ints}
 use Rattle.std.proofs.lemmas.List.{length-replicate}
+use Rattle.number_laws.specs.Missing.{IsAtMost}
+use Rattle.number_laws.proofs.MissingLaws.{IsAtMost-refl, IsGreaterOf}
 use Rattle.plant_model.specs.declared.parts.Parts.{Parts}
 use Rattle.slot_box.specs.declared.node.Leaf.{Leaf as LeafKind}
 use Rattle.slot_box.specs.declared.node.Leaf.TheVariants.{Dual, Point}
@@ -22,16 +25,16 @@ use Rattle.leaf_value.specs.Settings.{Setting, plain_setting}
 use Rattle.leaf_value.specs.LeafValue.{AreBounding, leaf_value_of}
 use Rattle.leaf_value.specs.PlainValue.{plain_value_of}
 use Rattle.slot_box.specs.Ranges.{IsNodeInRange}
+use Rattle.greedy_plan.specs.Greedy.{all_operations}
+use Rattle.plan_build.specs.Built.{IsBuilt}
 use Rattle.box_search.specs.declared.search.Pending.{Pending}
 use Rattle.box_search.specs.declared.search.Search.{Search}
 use Rattle.box_search.specs.inside.Growing.{open_leaf, tree_divided, boxes_divided}
 use Rattle.box_search.specs.inside.Searching.{IsSettled, IsPending, IsWaiting, IsSearch}
 use Rattle.box_search.specs.Searched.{best_margin}
-use Rattle.leaf_value.specs.LeafValue.{IsAtMost}
 use Rattle.box_search.proofs.DivideLaws.{ArePartsOf, IsUnderway-divided}
 use Rattle.box_search.proofs.GrowthLaws.{IsGrown-root, left_there, right_there, added}
-use Rattle.box_search.proofs.SettleLaws.{last_waits, IsUnderway-settled}
-use Rattle.box_search.proofs.ValueLaws.{IsGreaterOf, IsAtMost-refl}
+use Rattle.box_search.proofs.SettleLaws.{last_waits, IsUnderway-settled, IsUnderway-raised}
 
 -- ---- numbers of nodes
 
@@ -50,6 +53,31 @@ numbers-divided tree id ticket split is all =
     numbers-two [] all = ((omega arith, (omega arith, tt)), ((omega arith, (omega arith, tt)), tt))
     numbers-two (node ∷ nodes) all = (all.0, numbers-two nodes all.1)
 
+-- ---- plans
+
+-- a built plan is one
+plan-built : (parts : Parts) (n : ℕ) (best : Option Planned) → IsBuilt parts n (all_operations parts) best →
+    IfSome best (λ planned. IsPlanOf parts n planned.margin planned.plan)
+plan-built parts n None built = tt
+plan-built parts n (Some planned) built = built.plan
+
+-- a plan that earns no less is as good as a built one
+built-raised : (parts : Parts) (n : ℕ) (hint : List ℕ) (best found better : Option Planned) → IsBuilt parts n hint best →
+    IfSome found (λ planned. IsPlanOf parts n planned.margin planned.plan) → IsGreaterOf (best_margin best) (best_margin found) (best_margin better) →
+    (better ≡ best) ⊎ (better ≡ found) → IsBuilt parts n hint better
+built-raised parts n hint best found better built plan rise (inl same) = subst (IsBuilt parts n hint) (sym same) built
+built-raised parts n hint best found better built plan rise (inr same) =
+    subst (IsBuilt parts n hint) (sym same)
+    (as_good best found built plan (subst (λ b. IsAtMost (best_margin best) (best_margin b)) same rise.first))
+  where
+    as_good : (first second : Option Planned) → IsBuilt parts n hint first → IfSome second (λ planned. IsPlanOf parts n planned.margin planned.plan) →
+        IsAtMost (best_margin first) (best_margin second) → IsBuilt parts n hint second
+    as_good None None built plan up = built
+    as_good None (Some planned) built plan up = record { plan = plan; no_worse = λ legal. absurd (built legal) }
+    as_good (Some old) None built plan up = absurd up
+    as_good (Some old) (Some planned) built plan up =
+        record { plan = plan; no_worse = λ legal. (let least = built.no_worse legal in omega (arith, ints, least, up)) }
+
 -- ---- the root
 
 some_points : (box : List Slot) → HasPoint box → IsCountOf (IsPoint box) (points_of box) → 0 < points_of box
@@ -57,9 +85,10 @@ some_points box (point, is) counted = let below = counted.below point is in omeg
 
 pub IsSearch-root : (parts : Parts) (n budget : ℕ) (p : Pending) → p ≡ record { id = 0; bx = root_box (plain parts n) } → HasPoint (root_box (plain parts n)) →
     IsCountOf (IsPoint (root_box (plain parts n))) (points_of (root_box (plain parts n))) →
-    IsSearch parts n budget (record { tickets = 0; tree = Leaf open_leaf ∷ []; pending = p ∷ []; best = None; bound = None })
-IsSearch-root parts n budget p is point counted =
-    subst (λ q. IsSearch parts n budget (record { tickets = 0; tree = Leaf open_leaf ∷ []; pending = q ∷ []; best = None; bound = None })) (sym is) (record {
+    (best : Option Planned) → IsBuilt parts n (all_operations parts) best →
+    IsSearch parts n budget (record { tickets = 0; tree = Leaf open_leaf ∷ []; pending = p ∷ []; best = best; bound = None })
+IsSearch-root parts n budget p is point counted best built =
+    subst (λ q. IsSearch parts n budget (record { tickets = 0; tree = Leaf open_leaf ∷ []; pending = q ∷ []; best = best; bound = None })) (sym is) (record {
       boxes = root_box (plain parts n) ∷ [];
       underway = record {
         grown = IsGrown-root (root_box (plain parts n)) (some_points (root_box (plain parts n)) point counted);
@@ -69,12 +98,13 @@ IsSearch-root parts n budget p is point counted =
         leaves = leaves;
         bound_found = tt;
       };
-      plan = tt;
+      plan = plan-built parts n best built;
+      built = built;
       numbers = ((omega arith, (omega arith, tt)), tt);
     })
   where
     leaves : (id : ℕ) (leaf : LeafKind) (box : List Slot) → slice_get (Leaf open_leaf ∷ []) id ≡ Some (Leaf leaf) → slice_get (root_box (plain parts n) ∷ []) id
-        ≡ Some box → IsWaiting (record { id = 0; bx = root_box (plain parts n) } ∷ []) id ⊎ IsSettled (plain_setting parts n) 0 budget None None box leaf
+        ≡ Some box → IsWaiting (record { id = 0; bx = root_box (plain parts n) } ∷ []) id ⊎ IsSettled (plain_setting parts n) 0 budget (best_margin best) None box leaf
     leaves zero leaf box is at = inl (inl refl)
     leaves (suc id) leaf box is at = absurd (cc)
 
@@ -90,13 +120,15 @@ module _ (parts : Parts) (n budget : ℕ) (search : Search) (p : Pending) (state
 
     settled_by : (leaf : LeafKind) (value higher : Option ℤ) (better : Option Planned) → leaf_value_of setting p.bx leaf ≡ value →
         IsSettled setting search.tickets budget (best_margin better) higher p.bx leaf → IsAtMost (best_margin search.best) (best_margin better) →
-        IsGreaterOf search.bound value higher → IfSome better (λ planned. IsPlanOf parts n planned.margin planned.plan) → IsNodeInRange (Leaf leaf) →
+        IsGreaterOf search.bound value higher → IfSome better (λ planned. IsPlanOf parts n planned.margin planned.plan) →
+        IsBuilt parts n (all_operations parts) better → IsNodeInRange (Leaf leaf) →
         IsSearch parts n budget (record search { tree = set search.tree p.id (Leaf leaf); best = better; bound = higher })
-    settled_by leaf value higher better valued settled rise up plan number = record {
+    settled_by leaf value higher better valued settled rise up plan built number = record {
       boxes = state.boxes;
       underway = IsUnderway-settled setting budget search.tickets search.tree state.boxes search.pending p (best_margin search.best) search.bound state.underway
           leaf value (best_margin better) higher valued settled rise up;
       plan = plan;
+      built = built;
       numbers = numbers-set search.tree p.id (Leaf leaf) number state.numbers;
     }
 
@@ -114,7 +146,7 @@ module _ (parts : Parts) (n budget : ℕ) (search : Search) (p : Pending) (state
           bounded = subst (λ v. IsAtMost (Some v) higher) is up.second;
           closed = subst (λ v. IsAtMost (Some v) (best_margin search.best)) is beaten;
         })
-        (IsAtMost-refl (best_margin search.best)) up state.plan (omega arith, (omega arith, tt))
+        (IsAtMost-refl (best_margin search.best)) up state.plan state.built (omega arith, (omega arith, tt))
 
     -- left open
     pub IsSearch-open : (value : ℤ) (higher : Option ℤ) → value ≡ pos (plain_value_of parts p.bx) → search.tickets ≡ budget → 2 ≤ points_of p.bx →
@@ -122,7 +154,7 @@ module _ (parts : Parts) (n budget : ℕ) (search : Search) (p : Pending) (state
     IsSearch-open value higher is spent several up =
         settled_by open_leaf (Some value) higher search.best (ap Some (sym is))
         (record { lawful = bounding; bounded = subst (λ v. IsAtMost (Some v) higher) is up.second; closed = (spent, several) })
-        (IsAtMost-refl (best_margin search.best)) up state.plan (omega arith, (omega arith, tt))
+        (IsAtMost-refl (best_margin search.best)) up state.plan state.built (omega arith, (omega arith, tt))
 
     -- replayed
     pub IsSearch-point : (found better : Option Planned) (higher : Option ℤ) → HasOnePoint p.bx → option_map (λ planned. planned.margin) found
@@ -137,15 +169,35 @@ module _ (parts : Parts) (n budget : ℕ) (search : Search) (p : Pending) (state
           bounded = subst (λ v. IsAtMost v higher) valued up.second;
           closed = subst (λ v. IsAtMost v (best_margin better)) valued rise.second;
         })
-        rise.first up (plans either) tt
+        rise.first up (plans either)
+        (built-raised parts n (all_operations parts) search.best found better state.built sized_plan rise either) tt
       where
         sized : length p.bx ≡ n
         sized = state.underway.grown.slots p.id p.bx waits.box ∙ length-replicate n _
 
+        sized_plan : IfSome found (λ planned. IsPlanOf parts n planned.margin planned.plan)
+        sized_plan = subst (λ m. IfSome found (λ planned. IsPlanOf parts m planned.margin planned.plan)) sized plan
+
         plans : (better ≡ search.best) ⊎ (better ≡ found) → IfSome better (λ planned. IsPlanOf parts n planned.margin planned.plan)
         plans (inl same) = subst (λ b. IfSome b (λ planned. IsPlanOf parts n planned.margin planned.plan)) (sym same) state.plan
         plans (inr same) = subst (λ b. IfSome b (λ planned. IsPlanOf parts n planned.margin planned.plan)) (sym same)
-            (subst (λ m. IfSome found (λ planned. IsPlanOf parts m planned.margin planned.plan)) sized plan)
+            sized_plan
+
+    -- a better plan is found
+    pub IsSearch-raised : (found better : Option Planned) → IfSome found (λ planned. IsPlanOf parts n planned.margin planned.plan) →
+        IsGreaterOf (best_margin search.best) (best_margin found) (best_margin better) → (better ≡ search.best) ⊎ (better ≡ found) →
+        IsSearch parts n budget (record search { pending = search.pending ++ p ∷ []; best = better })
+    IsSearch-raised found better plan rise either = record {
+      boxes = state.boxes;
+      underway = IsUnderway-raised setting budget search.tickets search.tree state.boxes (search.pending ++ p ∷ []) (best_margin search.best) search.bound
+          state.underway (best_margin better) rise.first;
+      plan = plan-built parts n better built;
+      built = built;
+      numbers = state.numbers;
+    }
+      where
+        built : IsBuilt parts n (all_operations parts) better
+        built = built-raised parts n (all_operations parts) search.best found better state.built plan rise either
 
     -- divided
     module _ (split : Split) (lawful : IsLawfulSplit p.bx split) (counts : SharesCount p.bx split) (left : search.tickets < budget)
@@ -185,6 +237,7 @@ module _ (parts : Parts) (n budget : ℕ) (search : Search) (p : Pending) (state
             lawful
             counts a b two left;
         plan = state.plan;
+        built = state.built;
         numbers = numbers-divided search.tree p.id t split number state.numbers;
       }
 

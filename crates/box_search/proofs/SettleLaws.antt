@@ -4,6 +4,8 @@ use Rattle.std.specs.Prelude.{◌⊎◌, IfSome}
 use Rattle.std.specs.List.{AllByRecursion}
 use Rattle.std.proofs.lemmas.Bool.{cases_eq}
 use Rattle.std.proofs.lemmas.Option.{slice_get_within}
+use Rattle.number_laws.specs.Missing.{IsAtMost}
+use Rattle.number_laws.proofs.MissingLaws.{IsAtMost-trans, IsAtMost-refl, IsGreaterOf}
 use Rattle.slot_box.specs.declared.node.Leaf.{Leaf as LeafKind}
 use Rattle.slot_box.specs.declared.node.Leaf.TheVariants.{Dead, Void, Dual, Undone, Point}
 use Rattle.slot_box.specs.declared.node.Node.{Node}
@@ -16,10 +18,8 @@ use Rattle.slot_box.specs.Nodes.{IsLeaf}
 use Rattle.box_search.specs.declared.search.Pending.{Pending}
 use Rattle.box_search.specs.inside.Growing.{IsBoxAt, open_leaf}
 use Rattle.box_search.specs.inside.Searching.{IsClosed, IsSettled, IsPending, IsWaiting, AreApart, IsFoundValue, IsUnderway}
-use Rattle.leaf_value.specs.LeafValue.{IsAtMost}
 use Rattle.box_search.proofs.GrowthLaws.{IsGrown-settled}
 use Rattle.box_search.proofs.ListLaws.{get-set_same, get-set_other}
-use Rattle.box_search.proofs.ValueLaws.{IsGreaterOf, IsAtMost-trans}
 use Rattle.box_search.proofs.WaitingLaws.{All-front, IsWaiting-push, IsWaiting-front, IsWaiting-back, AreApart-front, still_waiting}
 
 -- a leaf that is settled stays so as the best margin and the bound rise
@@ -39,6 +39,22 @@ IsSettled-more setting t budget best better bound higher box leaf rise up settle
   lawful = settled.lawful;
   bounded = IsAtMost-trans (leaf_value_of setting box leaf) bound higher settled.bounded up;
   closed = IsClosed-more setting t budget best better box leaf rise settled.closed;
+}
+
+-- as the best margin rises
+pub IsUnderway-raised : (setting : Setting) (budget t : ℕ) (tree : List Node) (boxes : List (List Slot)) (pending : List Pending) (best bound : Option ℤ) →
+    IsUnderway setting budget t tree boxes pending best bound → (better : Option ℤ) → IsAtMost best better →
+    IsUnderway setting budget t tree boxes pending better bound
+IsUnderway-raised setting budget t tree boxes pending best bound state better rise = record {
+  grown = state.grown;
+  within = state.within;
+  waiting = state.waiting;
+  apart = state.apart;
+  leaves = λ id leaf box is at. elim (state.leaves id leaf box is at) [
+    | inl waits ↦ inl waits
+    | inr was ↦ inr (IsSettled-more setting t budget best better bound bound box leaf rise (IsAtMost-refl bound) was)
+  ];
+  bound_found = state.bound_found;
 }
 
 module _ (setting : Setting) (budget t : ℕ) (tree : List Node) (boxes : List (List Slot)) (front : List Pending) (p : Pending) (best bound : Option ℤ)

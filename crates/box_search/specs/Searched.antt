@@ -9,6 +9,8 @@ use Rattle.replay_core.specs.Claim.{IsPlanOf}
 use Rattle.leaf_value.specs.Settings.{plain_setting}
 use Rattle.leaf_value.specs.TreeValue.{AreLawful, IsBoundOf}
 use Rattle.leaf_value.specs.Budget.{KeepsBudget}
+use Rattle.greedy_plan.specs.Greedy.{all_operations}
+use Rattle.plan_build.specs.Built.{IsBuilt}
 use Rattle.box_search.specs.declared.search.Found.{Found}
 
 -- the margin of the best plan, where there is one
@@ -26,4 +28,6 @@ pub record IsFound (parts : Parts) (n budget : ℕ) (found : Found) : Type 0 whe
   pub lawful : AreLawful (plain_setting parts n) found.tree
   pub bound : IsBoundOf (plain_setting parts n) found.tree found.bound
   pub plan : IfSome found.best (λ planned. IsPlanOf parts n planned.margin planned.plan)
+  -- it earns no less than the greedy plan of all operations, and none was found only where that is not legal
+  pub built : IsBuilt parts n (all_operations parts) found.best
   pub budget_kept : KeepsBudget (plain_setting parts n) budget found.tree (best_margin found.best)

@@ -1,16 +1,16 @@
 ghost use Rattle.std.specs.Prelude.{◌≡◌, ◌⊎◌, ◌+◌, ◌-◌, ◌*◌, ◌<◌, ◌≤◌, ◌↔◌, pos, Some, [], ◌∷◌, ◌++◌, length, slice_set, IsTrue, OnOk};
-ghost use Rattle.limits.specs.declared.TheConstants.{MOST_NODES};
+ghost use Rattle.limits.specs.declared.TheConstants.{MOST_NODES, MOST_SLOTS};
 ghost use Rattle.slot_box.specs.declared.node.Node.TheVariants as nodes;
 ghost use Rattle.slot_box.specs.Boxes.{HasOnePoint, points_of};
 ghost use Rattle.slot_box.specs.Splits.{IsLawfulSplit};
 ghost use Rattle.slot_box.specs.Ranges.{IsNodeInRange};
-ghost use Rattle.leaf_value.specs.LeafValue.{greater};
+ghost use Rattle.number_laws.specs.Missing.{greater, IsAtMost};
 ghost use Rattle.leaf_value.specs.PlainValue.{plain_value_of};
 ghost use Rattle.box_search.specs.inside.Growing.{open_leaf, tree_divided};
 ghost use Rattle.box_search.specs.inside.Searching.{IsSearch};
 ghost use Rattle.box_search.specs.Searched.{best_margin};
-ghost use Rattle.leaf_value.specs.LeafValue.{IsAtMost};
 
+use crate::building::plan_of_box;
 use crate::search::{Pending, Search, open_leaf};
 use item_lists::Items;
 use leaf_value::{greater, plain_value};
@@ -20,6 +20,9 @@ use replay_core::Planned;
 use slot_box::{Leaf, Node, NodeList, Split, SplitKind, split_laws};
 use slot_forms::point_value;
 use std::alloc::{AllocError, Global};
+
+/// As many boxes, the first that are divided, get a plan of their own.
+const BUILT_BOXES: u32 = 256;
 
 /// The margin of a plan, if there is one.
 fn margin(best: &Option<Planned>) -> Option<i64>
@@ -141,6 +144,35 @@ fn try_point(
     Ok(())
 }
 
+/// Whether a box that is divided next gets a plan of its own: the first ones do.
+fn is_built_from(search: &Search) -> bool {
+    search.tickets < BUILT_BOXES
+}
+
+/// Builds a plan from the box, and keeps it where it earns more than the best one so far.
+fn build_from(
+    alloc: Global,
+    plant: &Plant,
+    slots: u32,
+    budget: u32,
+    search: &mut Search,
+    pending: &Pending,
+) -> Result<(), AllocError>
+    requires state { IsSearch plant.now slots budget
+        (record search.old { pending = search.old.pending ++ pending.now ∷ [] }) }
+    requires most_slots { slots ≤ MOST_SLOTS }
+    ensures state { OnOk result (IsSearch plant.now slots budget
+        (record search.new { pending = search.new.pending ++ pending.now ∷ [] })) }
+    ensures tickets { search.new.tickets ≡ search.old.tickets }
+    ensures pending { search.new.pending ≡ search.old.pending }
+{
+    if is_built_from(search) {
+        let found = plan_of_box(alloc, plant, slots, &pending.bx)?;
+        search.best = better(search.best.take(), found);
+    }
+    Ok(())
+}
+
 /// The node of a box that is divided for the ticket.
 fn inner_node(ticket: u32, split: Split) -> Node
     ensures value { result ≡ nodes.Inner ticket split }
@@ -226,6 +258,37 @@ fn divide<G: Gate>(
     Ok(())
 }
 
+/// Divides a box, or closes it where a plan that is built from it earns as much as its value.
+fn build_or_divide<G: Gate>(
+    alloc: Global,
+    plant: &Plant,
+    slots: u32,
+    budget: u32,
+    gate: &G,
+    search: &mut Search,
+    pending: Pending,
+    split: Split,
+    value: i64,
+) -> Result<(), AllocError>
+    requires state { IsSearch plant.now slots budget
+        (record search.old { pending = search.old.pending ++ pending ∷ [] }) }
+    requires most_slots { slots ≤ MOST_SLOTS }
+    requires most_nodes { budget ≤ MOST_NODES }
+    requires left { search.old.tickets < budget }
+    requires lawful { IsLawfulSplit pending.bx split }
+    requires value { value ≡ pos (plain_value_of plant.now pending.bx) }
+    ensures state { OnOk result (IsSearch plant.now slots budget search.new) }
+    ensures less { OnOk result (2 * (budget - search.new.tickets) + length search.new.pending
+        < 2 * (budget - search.old.tickets) + length search.old.pending + 1) }
+{
+    build_from(alloc, plant, slots, budget, search, &pending)?;
+    if is_beaten(value, margin(&search.best)) {
+        close(alloc, plant, slots, budget, search, pending, value);
+        return Ok(());
+    }
+    divide(alloc, plant, slots, budget, gate, search, pending, split)
+}
+
 /// Examines a box: closes it, replays its one point, divides it, or leaves it open.
 pub(crate) fn examine<G: Gate>(
     alloc: Global,
@@ -238,6 +301,7 @@ pub(crate) fn examine<G: Gate>(
 ) -> Result<(), AllocError>
     requires state { IsSearch plant.now slots budget
         (record search.old { pending = search.old.pending ++ pending ∷ [] }) }
+    requires most_slots { slots ≤ MOST_SLOTS }
     requires most_nodes { budget ≤ MOST_NODES }
     ensures state { OnOk result (IsSearch plant.now slots budget search.new) }
     ensures less { OnOk result (2 * (budget - search.new.tickets) + length search.new.pending
@@ -251,7 +315,9 @@ pub(crate) fn examine<G: Gate>(
     match pending.bx.division() {
         None => try_point(alloc, plant, slots, budget, search, pending),
         Some(split) if search.tickets < budget => {
-            divide(alloc, plant, slots, budget, gate, search, pending, split)
+            build_or_divide(
+                alloc, plant, slots, budget, gate, search, pending, split, value,
+            )
         }
         Some(_) => {
             leave_open(alloc, plant, slots, budget, search, pending, value);

@@ -3,7 +3,10 @@ ghost use Rattle.limits.specs.declared.TheConstants.{MOST_NODES, MOST_SLOTS};
 ghost use Rattle.box_search.specs.inside.Growing.{open_leaf};
 ghost use Rattle.box_search.specs.inside.Searching.{IsSearch};
 ghost use Rattle.box_search.specs.Searched.{IsFound};
+ghost use Rattle.greedy_plan.specs.Greedy.{all_operations};
+ghost use Rattle.plan_build.specs.Built.{IsBuilt};
 
+use crate::building::first_plan;
 use crate::examine::examine;
 use item_lists::Items;
 use outer_edge::Gate;
@@ -56,10 +59,17 @@ pub(crate) fn open_leaf(alloc: Global) -> Leaf
     }
 }
 
-/// The search whose one node is the root, which waits.
-fn begin(alloc: Global, plant: &Plant, slots: u32, budget: u32) -> Result<Search, AllocError>
+/// The search whose one node is the root, which waits, and whose best plan is the first one.
+fn begin(
+    alloc: Global,
+    plant: &Plant,
+    slots: u32,
+    budget: u32,
+    best: Option<Planned>,
+) -> Result<Search, AllocError>
     requires some_slots { 1 ≤ slots }
     requires most_slots { slots ≤ MOST_SLOTS }
+    requires built { IsBuilt plant.now slots (all_operations plant.now) best }
     ensures { IfOk result (λ search. IsSearch plant.now slots budget search) }
 {
     let bx = root_box(alloc, plant, slots)?;
@@ -74,7 +84,7 @@ fn begin(alloc: Global, plant: &Plant, slots: u32, budget: u32) -> Result<Search
         tickets: 0,
         tree,
         pending,
-        best: None,
+        best,
         bound: None,
     })
 }
@@ -93,7 +103,8 @@ pub fn search_boxes<G: Gate>(
     requires most_nodes { budget ≤ MOST_NODES }
     ensures { IfOk result (λ found. IsFound plant.now slots budget found) }
 {
-    let mut search = begin(alloc, plant, slots, budget)?;
+    let best = first_plan(alloc, plant, slots)?;
+    let mut search = begin(alloc, plant, slots, budget, best)?;
     while let Some(pending) = search.pending.pop() {
         examine(alloc, plant, slots, budget, gate, &mut search, pending)?;
     }

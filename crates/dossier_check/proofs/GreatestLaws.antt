@@ -4,12 +4,12 @@ use Rattle.std.specs.Prelude.{◌⊎◌, slice_get, int_lt}
 use Rattle.std.proofs.lemmas.Bool.{cases_Bool, cases_eq, cond-true, cond-false}
 use Rattle.std.proofs.lemmas.Bool.Decides.{Decides-int_eq}
 use Rattle.std.proofs.lemmas.Int.{ints}
+use Rattle.number_laws.specs.Missing.{greater}
 use Rattle.slot_box.specs.declared.node.Node.{Node}
 use Rattle.slot_box.specs.declared.node.Node.TheVariants.{Inner, Leaf}
 use Rattle.slot_box.specs.declared.slot.Slot.{Slot}
 use Rattle.slot_forms.specs.Cases.{root_box}
 use Rattle.leaf_value.specs.Settings.{Setting}
-use Rattle.leaf_value.specs.LeafValue.{greater}
 use Rattle.leaf_value.specs.TreeValue.{IsLeafValue, IsBoundOf}
 use Rattle.dossier_check.specs.Earlier.{with_node}
 use Rattle.dossier_check.specs.NodeReasons.{node_value, greatest_value}

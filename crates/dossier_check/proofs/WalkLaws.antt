@@ -3,10 +3,10 @@ use Rattle.std.proofs.Common.{◌≡◌, ℕ, ◌+◌, ◌<◌, ◌≤◌, ℤ, 
 use Rattle.std.proofs.lemmas.List.{drop_more, drop_all}
 use Rattle.item_lists.specs.Faults.{first_of}
 use Rattle.item_lists.proofs.FaultLaws.{first_of-front, first_of-back}
+use Rattle.number_laws.specs.Missing.{greater}
 use Rattle.slot_box.specs.declared.node.Node.{Node}
 use Rattle.slot_box.specs.declared.term.Term.{Term}
 use Rattle.leaf_value.specs.Settings.{Setting}
-use Rattle.leaf_value.specs.LeafValue.{greater}
 use Rattle.dossier_check.specs.declared.met.Met.{Met}
 use Rattle.dossier_check.specs.declared.verdict.Reason.{Reason}
 use Rattle.dossier_check.specs.Earlier.{Holder, box_of, with_node}

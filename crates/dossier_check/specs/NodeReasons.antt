@@ -2,6 +2,7 @@
 use Rattle.std.specs.Prelude.{ℕ, ◌+◌, ◌==◌, ◌&&◌, nat_lt, nat_le, not, ℤ, List, [], ◌∷◌, ◌++◌, length, Option, Some, None}
 use Rattle.item_lists.specs.Faults.{unless}
 use Rattle.limits.specs.declared.TheConstants.{MOST_MULTIPLIER}
+use Rattle.number_laws.specs.Missing.{greater}
 use Rattle.slot_box.specs.declared.node.Leaf.{Leaf as LeafKind}
 use Rattle.slot_box.specs.declared.node.Leaf.TheVariants.{Dead, Void, Dual, Undone, Point}
 use Rattle.slot_box.specs.declared.node.Node.{Node}
@@ -13,7 +14,7 @@ use Rattle.slot_box.specs.declared.term.Term.TheVariants.{Row, Cut}
 use Rattle.slot_box.specs.Boxes.{points_of}
 use Rattle.slot_box.specs.Splits.{is_lawful}
 use Rattle.leaf_value.specs.Settings.{Setting, has_row, has_cut_row, is_blocked, are_contradictory}
-use Rattle.leaf_value.specs.LeafValue.{leaf_value_of, greater}
+use Rattle.leaf_value.specs.LeafValue.{leaf_value_of}
 use Rattle.dossier_check.specs.declared.verdict.Reason.{Reason}
 use Rattle.dossier_check.specs.Earlier.{Holder, is_held, box_of, with_node}
 

@@ -12,7 +12,7 @@ use Rattle.line_text.specs.Decimal.{decimal_of, signed_of}
 use Rattle.line_text.specs.inside.Digits.{with_digit}
 use Rattle.line_text.proofs.DecimalLaws.{decimal_of-decimal, decimal_of-some}
 use Rattle.line_text.proofs.SignedLaws.{signed_of-decimal, signed_of-some}
-use Rattle.line_text.proofs.WordLaws.{IsWord, line_of-words_of, words_of-line_of}
+use Rattle.line_text.proofs.WordLaws.{IsWord, line_of-words_of, words_of-line_of, literal}
 use Rattle.line_text.proofs.ReadingLaws.{key_at-key, decimal_is_word, signed_is_word}
 use Rattle.dossier_text.specs.declared.fault.DossierFault.TheVariants.{Line}
 use Rattle.dossier_text.specs.declared.dossier.Word3.{Word3}
@@ -22,7 +22,7 @@ use Rattle.dossier_text.specs.Faults.{limited}
 use Rattle.dossier_text.specs.Text.{answer_word}
 use Rattle.dossier_text.specs.inside.HeadReading.{word_in, answer_of, answer_at, claim_of, claimed_at, plan_count_of, plan_count_at}
 use Rattle.dossier_text.proofs.StepLaws.{same_Ok, no_fault, behind, behind_formed, limited_ok, limited-few, by_word, behind_line, line_at-words, behind_key, word_at-ok, word_at-again}
-use Rattle.dossier_text.proofs.HeadLaws.{whole_line, line_in_front, literal}
+use Rattle.dossier_text.proofs.HeadLaws.{whole_line, line_in_front}
 
 -- ---- one word behind another
 

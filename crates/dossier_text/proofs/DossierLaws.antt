@@ -4,6 +4,7 @@ use Rattle.std.specs.Prelude.{codes, decimal, IfOk}
 use Rattle.std.proofs.lemmas.List.{append-nil}
 use Rattle.limits.specs.declared.TheConstants.{MOST_NODES}
 use Rattle.line_text.specs.Words.{text_of}
+use Rattle.line_text.proofs.WordLaws.{literal}
 use Rattle.dossier_text.specs.declared.fault.DossierFault.{DossierFault}
 use Rattle.dossier_text.specs.declared.fault.DossierFault.TheVariants.{Line}
 use Rattle.dossier_text.specs.declared.dossier.Dossier.{Dossier}
@@ -15,10 +16,10 @@ use Rattle.dossier_text.specs.Text.{answer_word, format_lines, size_lines, claim
 use Rattle.dossier_text.specs.Entries.{signed_word}
 use Rattle.dossier_text.specs.Faults.{Gives}
 use Rattle.dossier_text.specs.inside.HeadReading.{fixed_at, format_at, count_at, sizes_at, answer_at, claimed_at, claim_at}
-use Rattle.dossier_text.specs.Reading.{plan_at, cuts_at, tree_at, none_left, ending_at, plan_length, dossier_at}
+use Rattle.dossier_text.specs.Reading.{plan_at, cuts_at, tree_at, none_left, ending_at, plan_length, dossier_at, put_together}
 use Rattle.dossier_text.proofs.Joining.{dossier_bytes_in_parts}
 use Rattle.dossier_text.proofs.StepLaws.{same_Ok, no_fault, behind}
-use Rattle.dossier_text.proofs.HeadLaws.{whole_line, more_text, literal, fixed_at-ok, fixed_at-again, format_at-ok, format_at-again, IsCount, count_at-ok, count_at-again}
+use Rattle.dossier_text.proofs.HeadLaws.{whole_line, more_text, fixed_at-ok, fixed_at-again, format_at-ok, format_at-again, IsCount, count_at-ok, count_at-again}
 use Rattle.dossier_text.proofs.ClaimLaws.{IsClaim, answer_at-ok, answer_at-again, claimed_at-ok, claimed_at-again}
 use Rattle.dossier_text.proofs.ListLaws.{plan_at-ok, plan_at-again, cuts_at-ok, cuts_at-again, tree_at-ok, tree_at-again}
 
@@ -164,16 +165,7 @@ dossier_at-ok bytes dossier found =
     let e4 = cuts_at-ok (9 + plan_length plan.0) plan.1 cuts f4 in
     let e5 = tree_at-ok (10 + plan_length plan.0 + length cuts.0) sizes.0.nodes cuts.1 tree f5 in
     let e6 = ending_at-ok (10 + plan_length plan.0 + length cuts.0 + length tree.0) tree.1 r7 f6 in
-    let made : Dossier = record {
-      slots = sizes.0.slots;
-      nodes = sizes.0.nodes;
-      answer = claim.0.answer;
-      margin = claim.0.margin;
-      bound = claim.0.bound;
-      plan = plan.0;
-      cuts = cuts.0;
-      tree = tree.0;
-    } in
+    let made = put_together sizes.0 claim.0 plan.0 cuts.0 tree.0 in
     let fits : IsReadable made = record {
       slots = e1.1.slots;
       nodes = e1.1.nodes;

@@ -1,10 +1,9 @@
 -- The lines before the lists: what was written is read as what it was, and what is read is so written.
-use Rattle.std.proofs.Common.{◌≡◌, ℕ, ◌-◌, ◌^◌, ◌<◌, ◌≤◌, true, List, [], ◌∷◌, ◌++◌, Ok, refl, sym, ap, subst, ◌∙◌, arith, append_assoc}
+use Rattle.std.proofs.Common.{◌≡◌, ℕ, ◌-◌, ◌^◌, ◌<◌, ◌≤◌, List, [], ◌∷◌, ◌++◌, Ok, refl, sym, ap, subst, ◌∙◌, arith, append_assoc}
 use Rattle.std.specs.Prelude.{codes, decimal}
 use Rattle.std.proofs.lemmas.Slice.Eq.{bytes_eq-Decides}
 use Rattle.line_text.specs.Words.{words_of, line_of, text_of}
-use Rattle.line_text.proofs.PartLaws.{is_free}
-use Rattle.line_text.proofs.WordLaws.{IsWord, AreWords, line_of-words_of, words_of-line_of}
+use Rattle.line_text.proofs.WordLaws.{IsWord, AreWords, line_of-words_of, words_of-line_of, literal}
 use Rattle.line_text.proofs.ReadingLaws.{key_at-key, decimal_is_word}
 use Rattle.dossier_text.specs.declared.fault.DossierFault.TheVariants.{Line}
 use Rattle.dossier_text.specs.Text.{format_lines}
@@ -40,9 +39,6 @@ fixed_at-ok line text bytes rest found =
 pub fixed_at-again : (line : ℕ) (words : List (List ℕ)) (rest : List ℕ) → AreWords words → fixed_at line (line_of words) (whole_line words ++ rest) ≡ Ok rest
 unfolding fixed_at
 fixed_at-again line words rest each = rw (line_at-words line words rest each, (bytes_eq-Decides (line_of words) (line_of words)).1 refl) refl
-
-pub literal : (word : List ℕ) → is_free 32 word ≡ true → is_free 10 word ≡ true → IsWord word
-literal word unspaced unbroken = record { unspaced = unspaced; unbroken = unbroken }
 
 pub format_at-ok : (bytes rest : List ℕ) → format_at bytes ≡ Ok rest → bytes ≡ text_of format_lines ++ rest
 unfolding format_at format_lines

@@ -5,17 +5,17 @@ use Rattle.std.specs.List.{AllByRecursion}
 use Rattle.std.proofs.lemmas.Bool.{eqb-true, eq-eqb, cases_Bool, cond-true, cond-false}
 use Rattle.limits.specs.declared.TheConstants.{MOST_SLOTS, MOST_NODES, MOST_CUTS}
 use Rattle.line_text.specs.Words.{words_of, line_of, text_of}
-use Rattle.line_text.proofs.WordLaws.{line_of-words_of, words_of-line_of}
+use Rattle.line_text.proofs.WordLaws.{line_of-words_of, words_of-line_of, literal}
 use Rattle.plan_text.specs.declared.op_line.OpLine.{OpLine}
 use Rattle.plan_text.specs.OpLine.{op_line_words, op_line_at, IsOpLine}
+use Rattle.plan_text.specs.PlanText.{AreOpLines}
 use Rattle.plan_text.proofs.OpLineLaws.{op_line_at-some, op_line_at-again, op_line_words-are_words}
 use Rattle.slot_box.specs.declared.node.Node.{Node}
+use Rattle.slot_box.specs.Ranges.{IsNodeInRange}
 use Rattle.dossier_text.specs.declared.fault.DossierFault.TheVariants.{Line}
 use Rattle.dossier_text.specs.declared.dossier.CutLine.{CutLine}
 use Rattle.dossier_text.specs.Nodes.{cut_words, node_lines}
-use Rattle.slot_box.specs.Ranges.{IsNodeInRange}
 use Rattle.dossier_text.specs.Ranges.{IsCutLine}
-use Rattle.plan_text.specs.PlanText.{AreOpLines}
 use Rattle.dossier_text.specs.Text.{plan_lines, cut_lines}
 use Rattle.dossier_text.specs.inside.NodeReading.{node_at}
 use Rattle.dossier_text.specs.inside.HeadReading.{count_at, plan_count_at}
@@ -23,7 +23,7 @@ use Rattle.dossier_text.specs.Reading.{op_lines_at, plan_at, cuts_at, tree_at}
 use Rattle.dossier_text.specs.inside.ListReading.{items_at, op_at, any_cut_at}
 use Rattle.dossier_text.proofs.StepLaws.{same_Ok, no_fault, behind, behind_formed}
 use Rattle.dossier_text.proofs.EachLineLaws.{lines_from, AllFrom, ReadsItems, items_at-ok, items_at-again}
-use Rattle.dossier_text.proofs.HeadLaws.{whole_line, more_text, literal, IsCount, count_at-ok, count_at-again}
+use Rattle.dossier_text.proofs.HeadLaws.{whole_line, more_text, IsCount, count_at-ok, count_at-again}
 use Rattle.dossier_text.proofs.ClaimLaws.{count_word, IsPlanCount, plan_count_at-ok, plan_count_at-again}
 use Rattle.dossier_text.proofs.CutLaws.{cut_at-ok, cut_at-again, cut_words_are_words}
 use Rattle.dossier_text.proofs.NodeLaws.{line_words, line_words_are_words, node_at-ok, node_at-again}

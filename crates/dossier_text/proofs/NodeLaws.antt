@@ -1,11 +1,10 @@
 -- A node that was written is read as what it was, and what is read is so written.
-use Rattle.std.proofs.Common.{◌≡◌, ℕ, ◌-◌, ◌^◌, ◌<◌, ◌≤◌, true, eqb, List, [], ◌∷◌, map, Ok, Err, refl, sym, ap, subst, ◌∙◌, arith, inl, inr}
+use Rattle.std.proofs.Common.{◌≡◌, ℕ, ◌-◌, ◌^◌, ◌<◌, ◌≤◌, eqb, List, [], ◌∷◌, map, Ok, Err, refl, sym, ap, subst, ◌∙◌, arith, inl, inr}
 use Rattle.std.specs.Prelude.{codes, decimal}
 use Rattle.std.proofs.lemmas.Bool.{eqb-true, eq-eqb, cases_Bool, cond-true, cond-false}
 use Rattle.limits.specs.declared.TheConstants.{MOST_ROWS}
 use Rattle.line_text.specs.Words.{words_of, line_of}
-use Rattle.line_text.proofs.PartLaws.{is_free}
-use Rattle.line_text.proofs.WordLaws.{IsWord, AreWords, line_of-words_of, words_of-line_of}
+use Rattle.line_text.proofs.WordLaws.{AreWords, line_of-words_of, words_of-line_of, literal}
 use Rattle.line_text.proofs.ReadingLaws.{key_at-key, decimal_at-decimal, end_at-end, decimal_is_word}
 use Rattle.slot_box.specs.declared.term.Term.{Term}
 use Rattle.slot_box.specs.declared.split.Split.{Split}
@@ -15,11 +14,11 @@ use Rattle.slot_box.specs.declared.node.Leaf.{Leaf}
 use Rattle.slot_box.specs.declared.node.Leaf.TheVariants.{Dead, Void, Dual, Undone, Point}
 use Rattle.slot_box.specs.declared.node.Node.{Node}
 use Rattle.slot_box.specs.declared.node.Node.TheVariants as nodes
+use Rattle.slot_box.specs.Ranges.{IsTerm, AreTerms, IsSplitKind, IsLeafInRange, IsNodeInRange}
 use Rattle.dossier_text.specs.declared.fault.DossierFault.TheVariants.{Line}
 use Rattle.dossier_text.specs.Faults.{◌>>=◌}
 use Rattle.dossier_text.specs.Entries.{term_word}
 use Rattle.dossier_text.specs.Nodes.{kind_words, leaf_words, node_words}
-use Rattle.slot_box.specs.Ranges.{IsTerm, AreTerms, IsSplitKind, IsLeafInRange, IsNodeInRange}
 use Rattle.dossier_text.specs.inside.TermReading.{term_of, terms_at}
 use Rattle.dossier_text.specs.inside.WordReading.{number_at}
 use Rattle.dossier_text.specs.inside.NodeReading.{kind_at, inner_at, dead_at, void_at, dual_at, open_at, point_at, leaf_at, node_words_at, node_at}
@@ -242,9 +241,6 @@ node_words_again line (nodes.Inner ticket split) fits =
     )
     refl
 node_words_again line (nodes.Leaf leaf) fits = leaf_again line leaf fits
-
-literal : (word : List ℕ) → is_free 32 word ≡ true → is_free 10 word ≡ true → IsWord word
-literal word unspaced unbroken = record { unspaced = unspaced; unbroken = unbroken }
 
 leaf_words_are_words : (leaf : Leaf) → IsLeafInRange leaf → AreWords (leaf_words leaf)
 leaf_words_are_words (Dead at) fits = (literal (codes "dead") refl refl, (decimal_is_word at (omega (arith, fits)), tt))

@@ -11,6 +11,8 @@ use Rattle.dossier_text.specs.Faults.{◌>>=◌}
 use Rattle.dossier_text.specs.inside.NodeReading.{node_at}
 use Rattle.dossier_text.specs.inside.HeadReading.{fixed_at, format_at, count_at, sizes_at, claim_at, plan_count_at}
 use Rattle.dossier_text.specs.inside.ListReading.{items_at, op_at, any_cut_at}
+use Rattle.dossier_text.specs.declared.head_lines.Sizes.{Sizes}
+use Rattle.dossier_text.specs.declared.head_lines.Claim.{Claim}
 
 -- the lines of the operations, where there is a plan: the first is the ninth of the dossier
 unfoldable pub op_lines_at : Option ℕ → List ℕ → Result (Option (List OpLine) × List ℕ) DossierFault
@@ -51,6 +53,20 @@ abbrev pub plan_length : Option (List OpLine) → ℕ
 plan_length None = 0
 plan_length (Some lines) = length lines
 
+-- a dossier of what was read
+abbrev pub put_together : Sizes → Claim → Option (List OpLine) → List CutLine → List Node → Dossier
+put_together sizes claim plan cuts tree =
+    record {
+      slots = sizes.slots;
+      nodes = sizes.nodes;
+      answer = claim.answer;
+      margin = claim.margin;
+      bound = claim.bound;
+      plan = plan;
+      cuts = cuts;
+      tree = tree;
+    }
+
 -- all of the bytes
 unfoldable pub dossier_at : List ℕ → Result Dossier DossierFault
 dossier_at bytes = do
@@ -61,13 +77,4 @@ dossier_at bytes = do
   cuts ← cuts_at (9 + plan_length plan.0) plan.1
   tree ← tree_at (10 + plan_length plan.0 + length cuts.0) sizes.0.nodes cuts.1
   ending ← ending_at (10 + plan_length plan.0 + length cuts.0 + length tree.0) tree.1
-  Ok (record {
-    slots = sizes.0.slots;
-    nodes = sizes.0.nodes;
-    answer = claim.0.answer;
-    margin = claim.0.margin;
-    bound = claim.0.bound;
-    plan = plan.0;
-    cuts = cuts.0;
-    tree = tree.0;
-  })
+  Ok (put_together sizes.0 claim.0 plan.0 cuts.0 tree.0)

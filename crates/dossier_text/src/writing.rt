@@ -7,7 +7,7 @@ ghost use Rattle.dossier_text.specs.Text.{answer_word, format_lines, size_lines,
 
 use crate::dossier::{CutLine, Dossier, Word3};
 use crate::nodes::{write_cuts, write_nodes};
-use line_text::{push_number, push_signed_number, push_text};
+use line_text::{push_count, push_signed_number, push_text};
 use plan_text::{OpLine, OpLines, push_op_line};
 use std::alloc::{AllocError, Global};
 
@@ -34,15 +34,6 @@ fn write_claimed(out: &mut Vec<u8>, word: &[u8], number: Option<i64>) -> Result<
     push_text(out, b"\n")
 }
 
-/// Writes a line of the word and the count.
-fn write_count(out: &mut Vec<u8>, word: &[u8], count: u64) -> Result<(), AllocError>
-    ensures { OnOk result (out.new.items ≡ out.old.items ++ (line_of (word.now ∷ decimal count ∷ []) ++ 10 ∷ [])) }
-{
-    push_text(out, word)?;
-    push_number(out, count)?;
-    push_text(out, b"\n")
-}
-
 #[tactic(auto, unfolding(crate::specs::Text::format_lines))]
 fn write_format(out: &mut Vec<u8>) -> Result<(), AllocError>
     ensures { OnOk result (out.new.items ≡ out.old.items ++ text_of format_lines) }
@@ -54,8 +45,8 @@ fn write_format(out: &mut Vec<u8>) -> Result<(), AllocError>
 fn write_sizes(out: &mut Vec<u8>, dossier: &Dossier) -> Result<(), AllocError>
     ensures { OnOk result (out.new.items ≡ out.old.items ++ text_of (size_lines dossier.now.slots dossier.now.nodes)) }
 {
-    write_count(out, b"slots", u64::from(dossier.slots))?;
-    write_count(out, b"nodes", u64::from(dossier.nodes))
+    push_count(out, b"slots", u64::from(dossier.slots))?;
+    push_count(out, b"nodes", u64::from(dossier.nodes))
 }
 
 /// Writes what is claimed, in three lines: the answer, the margin and the bound.
@@ -91,7 +82,7 @@ fn write_plan(out: &mut Vec<u8>, plan: &Option<OpLines>) -> Result<(), AllocErro
         None => push_text(out, b"plan none\n"),
         Some(lines) => {
             let lines = lines.as_slice();
-            write_count(out, b"plan", lines.len() as u64)?;
+            push_count(out, b"plan", lines.len() as u64)?;
             write_op_lines(out, lines)
         }
     }
@@ -101,7 +92,7 @@ fn write_plan(out: &mut Vec<u8>, plan: &Option<OpLines>) -> Result<(), AllocErro
 fn write_cut_lines(out: &mut Vec<u8>, cuts: &[CutLine]) -> Result<(), AllocError>
     ensures { OnOk result (out.new.items ≡ out.old.items ++ text_of (cut_lines cuts.now)) }
 {
-    write_count(out, b"cuts", cuts.len() as u64)?;
+    push_count(out, b"cuts", cuts.len() as u64)?;
     write_cuts(out, cuts)
 }
 

@@ -1,6 +1,7 @@
 -- The choice of an operation is the greatest run of its room.
 use Rattle.std.proofs.Common.{◌≡◌, ◌↔◌, ℕ, ◌≤◌, true, Some, None, is_some, IsTrue, List, inl, inr, arith}
 use Rattle.std.proofs.lemmas.Bool.{cases_lt, false≢true}
+use Rattle.number_laws.proofs.PassingLaws.{greatest_is_none, greatest_is, least_is_none, least_is}
 use Rattle.plant_model.specs.declared.parts.Parts.{Parts}
 use Rattle.plant_model.specs.Parts.{horizon_of, op_of}
 use Rattle.plant_model.specs.Sound.{SoundOp}
@@ -10,7 +11,6 @@ use Rattle.greedy_plan.specs.declared.room.Run.{Run}
 use Rattle.greedy_plan.specs.Runs.{Takes, IsGreatest}
 use Rattle.greedy_plan.specs.Greedy.{earliest, fits, least_minutes, greatest_volume, choice_of}
 use Rattle.greedy_plan.proofs.FitLaws.{fits_well}
-use Rattle.greedy_plan.proofs.SearchLaws.{greatest_is_none, greatest_is, least_is_none, least_is}
 
 -- the room takes just what fits from the earliest start on
 abbrev pub IsRoomOf : Parts → List Timed → ℕ → Room → Type 0

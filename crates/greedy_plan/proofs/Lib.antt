@@ -1,7 +1,6 @@
 pub mod TimeLaws
 pub mod RoomLaws
 pub mod FitLaws
-pub mod SearchLaws
 pub mod ChoiceLaws
 pub mod StepLaws
 pub mod PlanLaws

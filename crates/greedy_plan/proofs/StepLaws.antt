@@ -6,6 +6,7 @@ use Rattle.std.specs.Result.{result_err}
 use Rattle.std.proofs.lemmas.Bool.{false≢true, false_from_ne_true, lt-ltb, le-leb}
 use Rattle.std.proofs.lemmas.Option.{option_and_then_some, none-some, same_Some}
 use Rattle.item_lists.specs.Faults.{first_of, unless}
+use Rattle.number_laws.proofs.PassingLaws.{least_passes}
 use Rattle.plant_model.specs.declared.parts.Parts.{Parts}
 use Rattle.plant_model.specs.Parts.{horizon_of, op_count_of, op_of}
 use Rattle.plant_model.specs.Relations.{refused_at_once_of}
@@ -16,7 +17,6 @@ use Rattle.replay_core.specs.State.{state_after}
 use Rattle.replay_core.specs.Rules.{is_known, lasts, keeps_window, keeps_volume, meets_rate, starts_in_order, last_start, waits_for_others, keeps_vessel_order, leaves_minimum, keeps_maximum, meets_limits}
 use Rattle.replay_core.specs.Legal.{broken, own_faults, order_faults, place_faults, op_faults}
 use Rattle.greedy_plan.specs.Greedy.{waits_until, earliest_start, earliest, fits, may_follow, followed_by, least_minutes, greatest_volume, choice_of}
-use Rattle.greedy_plan.proofs.SearchLaws.{least_passes}
 
 -- the tests of an operation that fits, one by one
 record FitsTests (parts : Parts) (before : List Timed) (t : Timed) : Type 0 where

@@ -1,9 +1,11 @@
--- The greedy plan of a list of operations: each in turn starts as early as it can, moves as much as then fits, in the
--- least time for that, and is left out where that breaks a rule.
+-- The greedy plan of a list of operations: each in turn starts as early as it can and moves as much as then fits, in the
+-- least time for that. It is left out where it can move nothing, where what was so chosen breaks the order of vessels or
+-- a limit, and where the plan is full.
 use Rattle.std.specs.Prelude.{◌≡◌, ℕ, ◌+◌, ◌≤◌, max, Bool, ◌&&◌, Option, Some, None, nat_lt, List, [], ◌∷◌, ◌++◌, length, fold, if◌then◌else◌}
+use Rattle.std.specs.List.{range_with_len}
 use Rattle.std.specs.Option.{is_some, option_and_then, option_map}
 use Rattle.plant_model.specs.declared.parts.Parts.{Parts}
-use Rattle.plant_model.specs.Parts.{horizon_of, op_of}
+use Rattle.plant_model.specs.Parts.{horizon_of, op_count_of, op_of}
 use Rattle.plant_model.specs.Relations.{refused_at_once_of}
 use Rattle.replay_core.specs.declared.timed.Timed.{Timed}
 use Rattle.replay_core.specs.declared.planned.Planned.{Planned}
@@ -11,7 +13,7 @@ use Rattle.replay_core.specs.Legal.{IsLegal}
 use Rattle.replay_core.specs.Margin.{margin_of}
 use Rattle.replay_core.specs.Rules.{lasts, keeps_window, keeps_volume, meets_rate, keeps_vessel_order, leaves_minimum, keeps_maximum, meets_limits}
 use Rattle.replay_core.specs.State.{state_after}
-use Rattle.greedy_plan.specs.Search.{greatest_up_to, least_up_to}
+use Rattle.number_laws.specs.Passing.{greatest_up_to, least_up_to}
 
 -- until when operation v waits for another: for its start, and for its end too where the two may not run at one moment
 abbrev pub waits_until : Parts → ℕ → Timed → ℕ
@@ -79,3 +81,7 @@ pub record IsGreedyPlan (parts : Parts) (n : ℕ) (ops : List ℕ) (planned : Pl
 abbrev pub IsGreedy : Parts → ℕ → List ℕ → Option Planned → Type 0
 IsGreedy parts n ops None = IsLegal parts (greedy_of parts n ops) → ⊥
 IsGreedy parts n ops (Some planned) = IsGreedyPlan parts n ops planned
+
+-- all operations, in rising number
+abbrev pub all_operations : Parts → List ℕ
+all_operations parts = range_with_len 0 (op_count_of parts)

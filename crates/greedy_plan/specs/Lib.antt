@@ -1,4 +1,3 @@
 pub mod inside
 pub mod Runs
-pub mod Search
 pub mod Greedy

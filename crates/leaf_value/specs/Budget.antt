@@ -1,5 +1,6 @@
 -- What a search tree owes to the budget of inner nodes that it was made with.
-use Rattle.std.specs.Prelude.{◌≡◌, ◌⊎◌, ℕ, ◌+◌, ◌≤◌, ℤ, List, Option, Some}
+use Rattle.std.specs.Prelude.{◌≡◌, ◌⊎◌, ℕ, ◌+◌, ◌≤◌, ℤ, List, Option}
+use Rattle.number_laws.specs.Missing.{IsAtMost}
 use Rattle.slot_box.specs.declared.node.Leaf.{Leaf as LeafKind}
 use Rattle.slot_box.specs.declared.node.Leaf.TheVariants.{Dead, Void, Dual, Undone, Point}
 use Rattle.slot_box.specs.declared.node.Node.{Node}
@@ -8,7 +9,7 @@ use Rattle.slot_box.specs.Boxes.{points_of}
 use Rattle.slot_box.specs.Nodes.{inner_count}
 use Rattle.slot_forms.specs.Cases.{root_box}
 use Rattle.leaf_value.specs.Settings.{Setting}
-use Rattle.leaf_value.specs.LeafValue.{leaf_value_of, IsAtMost}
+use Rattle.leaf_value.specs.LeafValue.{leaf_value_of}
 use Rattle.leaf_value.specs.TreeValue.{IsLeafOver}
 
 -- the leaf was left open

@@ -1,5 +1,5 @@
 -- Which leaves of a search tree are lawful, and which value each has.
-use Rattle.std.specs.Prelude.{◌≡◌, ℕ, ◌<◌, ◌≤◌, ℤ, pos, ◌≤ℤ◌, int_lt, if◌then◌else◌, IsTrue, All, List, length, ⊤, Option, Some, None}
+use Rattle.std.specs.Prelude.{◌≡◌, ℕ, ◌<◌, ◌≤◌, ℤ, pos, ◌≤ℤ◌, IsTrue, All, List, length, Option, Some, None}
 use Rattle.limits.specs.declared.TheConstants.{MOST_MULTIPLIER}
 use Rattle.replay_core.specs.Margin.{margin_of}
 use Rattle.slot_box.specs.declared.node.Leaf.{Leaf}
@@ -27,18 +27,6 @@ leaf_value_of setting box (Void terms) = None
 leaf_value_of setting box (Dual q terms) = Some (dual_value_of setting box q terms)
 leaf_value_of setting box (Undone q terms) = Some (dual_value_of setting box q terms)
 leaf_value_of setting box Point = point_value setting.case (only_point box)
-
--- the greater of two values, each of which may be none
-abbrev pub greater : Option ℤ → Option ℤ → Option ℤ
-greater None value = value
-greater (Some best) None = Some best
-greater (Some best) (Some value) = Some (if int_lt best value then value else best)
-
--- the first is none, or a number that the second reaches
-abbrev pub IsAtMost : Option ℤ → Option ℤ → Type 0
-IsAtMost None most = ⊤
-IsAtMost (Some value) None = ⊥
-IsAtMost (Some value) (Some most) = value ≤ℤ most
 
 -- ---- lawful leaves
 

@@ -1,5 +1,5 @@
 ghost use Rattle.std.specs.Prelude.{◌≡◌};
-ghost use Rattle.leaf_value.specs.LeafValue.{greater};
+ghost use Rattle.number_laws.specs.Missing.{greater};
 
 /// The greater of two values of 64 bits, each of which may be none.
 pub fn greater(best: Option<i64>, value: Option<i64>) -> Option<i64>

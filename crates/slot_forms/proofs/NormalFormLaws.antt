@@ -8,7 +8,9 @@ use Rattle.std.proofs.lemmas.List.{append-nil, length-append, take_at, drop_at}
 use Rattle.std.proofs.lemmas.List.Elements.{All-head, All-tail, All-nil, All-cons}
 use Rattle.std.proofs.lemmas.List.Sorted.{All-permutation, length_permutation}
 use Rattle.std.proofs.lemmas.Nat.Bits.{bit_at-pow_same}
+use Rattle.item_lists.proofs.ListLaws.{All-front, All-behind}
 use Rattle.limits.specs.declared.TheConstants.{MOST_OPERATIONS}
+use Rattle.number_laws.proofs.BitLaws.{set_from_one}
 use Rattle.plant_model.specs.declared.parts.Parts.{Parts}
 use Rattle.plant_model.specs.Parts.{op_count_of, greatest_volume_of, horizon_of}
 use Rattle.plant_model.specs.Sound.{SoundPlant}
@@ -18,7 +20,6 @@ use Rattle.replay_core.specs.Rules.{last_start}
 use Rattle.replay_core.specs.Legal.{IsLegal, IsLegalIn, IsInRange, StepsAreInRange}
 use Rattle.replay_core.specs.Margin.{margin_of}
 use Rattle.replay_core.proofs.StepLaws.{CanRun-legal}
-use Rattle.slot_automaton.proofs.BitLemmas.{set_from_one}
 use Rattle.slot_box.specs.declared.slot.Slot.{Slot}
 use Rattle.slot_box.specs.Boxes.{IsPoint, whole_slot}
 use Rattle.slot_box.specs.Entries.{Entry, idle, LiesIn}
@@ -91,14 +92,6 @@ all_late minute (t ∷ word) late =
     and_from (leb minute t.start) (list_all (λ (s : Timed). nat_le minute s.start) word) here
     (all_late minute word (All-tail (λ (s : Timed). minute ≤ s.start) t word late))
 
-All-behind : (P : Timed → Type 0) (front back : List Timed) → All P (front ++ back) → All P back
-All-behind P [] back all = all
-All-behind P (t ∷ front) back all = All-behind P front back (All-tail P t (front ++ back) all)
-
-All-before : (P : Timed → Type 0) (front back : List Timed) → All P (front ++ back) → All P front
-All-before P [] back all = All-nil P
-All-before P (t ∷ front) back all = All-cons P t front (All-head P t (front ++ back) all) (All-before P front back (All-tail P t (front ++ back) all))
-
 -- what is known of the plan of a case, parted into what is held and the rest, and of the normal form of the rest
 record HasNormalRest (parts : Parts) (plan held rest form : List Timed) : Type 0 where
   is : plan ≡ held ++ rest
@@ -131,7 +124,7 @@ normal_rest parts plan held rest ranges by_slot meaning entries forms legal is =
         normal_form = found.1;
         legal = same.legal slot_legal;
         margin = same.margin (CanRun-legal parts BySlot (held ++ rest) slot_legal) ∙ ap (margin_of parts) (sym is);
-        ranges_held = All-before (IsInRange parts) held rest each;
+        ranges_held = All-front (IsInRange parts) held rest each;
         ranges_form = All-permutation (IsInRange parts) rest form moved each_rest;
         count = length-append held form ∙ ap (λ (n : ℕ). length held + n) long ∙ sym (length-append held rest) ∙ sym (ap length is);
         entries = moved;

@@ -1,6 +1,7 @@
 -- A search in the middle of its work.
 use Rattle.std.specs.Prelude.{◌≡◌, ◌⊎◌, ℕ, ◌≤◌, ℤ, List, [], ◌∷◌, Option, Some, IfSome}
 use Rattle.std.specs.List.{AllByRecursion}
+use Rattle.number_laws.specs.Missing.{IsAtMost}
 use Rattle.plant_model.specs.declared.parts.Parts.{Parts}
 use Rattle.slot_box.specs.declared.node.Leaf.{Leaf as LeafKind}
 use Rattle.slot_box.specs.declared.node.Leaf.TheVariants.{Dead, Void, Dual, Undone, Point}
@@ -12,7 +13,9 @@ use Rattle.slot_box.specs.Ranges.{IsNodeInRange}
 use Rattle.replay_core.specs.Claim.{IsPlanOf}
 use Rattle.slot_forms.specs.Cases.{root_box}
 use Rattle.leaf_value.specs.Settings.{Setting, plain_setting}
-use Rattle.leaf_value.specs.LeafValue.{IsLawfulLeaf, leaf_value_of, IsAtMost}
+use Rattle.leaf_value.specs.LeafValue.{IsLawfulLeaf, leaf_value_of}
+use Rattle.greedy_plan.specs.Greedy.{all_operations}
+use Rattle.plan_build.specs.Built.{IsBuilt}
 use Rattle.box_search.specs.declared.search.Pending.{Pending}
 use Rattle.box_search.specs.declared.search.Search.{Search}
 use Rattle.box_search.specs.Searched.{best_margin}
@@ -78,4 +81,5 @@ pub record IsSearch (parts : Parts) (n budget : ℕ) (search : Search) : Type 0 
   pub underway : IsUnderway (plain_setting parts n) budget search.tickets search.tree boxes search.pending
       (best_margin search.best) search.bound
   pub plan : IfSome search.best (λ planned. IsPlanOf parts n planned.margin planned.plan)
+  pub built : IsBuilt parts n (all_operations parts) search.best
   pub numbers : AllByRecursion IsNodeInRange search.tree

@@ -1,8 +1,8 @@
 use Rattle.std.proofs.Common.{Some, ap, ◌∙◌, w64}
 use Rattle.std.proofs.lemmas.Int.{to_z-of_z}
-use Rattle.leaf_value.specs.LeafValue.{greater}
+use Rattle.number_laws.specs.Missing.{greater}
+use Rattle.number_laws.proofs.MissingLaws.{greater_is}
 use Rattle.box_search.proofs.SearchLaws.{IsSearch-open}
-use Rattle.box_search.proofs.ValueLaws.{greater_is}
 use Rattle.box_search.proofs.examine.leave_open.Goals as goal
 
 pub returns-clause-state : goal.returns-clause-state

@@ -1,11 +1,11 @@
 use Rattle.std.proofs.Common.{◌≡◌, Option, ap, ◌∙◌, subst}
 use Rattle.std.specs.Prelude.{◌⊎◌}
+use Rattle.number_laws.specs.Missing.{greater}
+use Rattle.number_laws.proofs.MissingLaws.{greater_is}
 use Rattle.replay_core.specs.declared.planned.Planned.{Planned}
 use Rattle.box_search.specs.declared.search.Search.{Search}
 use Rattle.box_search.specs.Searched.{best_margin}
-use Rattle.leaf_value.specs.LeafValue.{greater}
 use Rattle.box_search.proofs.SearchLaws.{IsSearch-point}
-use Rattle.box_search.proofs.ValueLaws.{greater_is}
 use Rattle.box_search.proofs.examine.try_point.Goals as goal
 
 pub returns-clause-state : goal.returns-clause-state

@@ -14,4 +14,4 @@ returns c =
     let tree : c.push-2.new.self ≡ Leaf open_leaf ∷ [] = search rules in
     rw (tree, pending)
     (IsSearch-root c.args.plant.now c.args.slots c.args.budget _ (rw root refl) (subst HasPoint root c.points.ensures.some)
-    (subst (λ box. IsCountOf (IsPoint box) (points_of box)) root c.points.ensures.number))
+    (subst (λ box. IsCountOf (IsPoint box) (points_of box)) root c.points.ensures.number) c.args.best c.requires.built)
