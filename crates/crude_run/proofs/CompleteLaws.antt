@@ -2,88 +2,26 @@
 use Rattle.std.proofs.Common.{◌≡◌, ℕ, inl, inr, ◌+◌, ◌≤◌, ◌<◌, List, length, refl, sym, ap, ap₂, ◌∙◌, subst, arith}
 use Rattle.std.specs.Prelude.{IfSome, decimal}
 use Rattle.std.proofs.lemmas.Bool.{cases_eq}
-use Rattle.line_text.specs.Decimal.{HasOneNumber}
 use Rattle.plant_model.specs.declared.parts.Parts.{Parts}
 use Rattle.plant_text.specs.PlantText.{plant_of}
+use Rattle.replay_core.specs.Legal.{IsLegal}
+use Rattle.greedy_plan.specs.Greedy.{greedy_of, all_operations}
 use Rattle.slot_box.specs.Boxes.{points_of}
 use Rattle.slot_forms.specs.Cases.{plain, root_box}
 use Rattle.dossier_text.specs.declared.dossier.Word3.{Word3}
 use Rattle.dossier_text.specs.declared.dossier.Word3.TheVariants.{Plan, Infeasible, Open3}
 use Rattle.crude_run.specs.declared.answer.Answer.{Answer}
-use Rattle.crude_run.specs.declared.words.Ask.{Ask}
-use Rattle.crude_run.specs.declared.words.Command.{Command}
-use Rattle.crude_run.specs.declared.words.Command.TheVariants.{Solve, Check, Replay, Show}
+use Rattle.command_line.specs.declared.command.Ask.{Ask}
+use Rattle.command_line.specs.declared.command.Command.{Command}
+use Rattle.command_line.specs.declared.command.Command.TheVariants.{Solve, Check, Replay, Show}
 use Rattle.crude_run.specs.Numbers.{plant_limit, status_no_memory, status_write_failed}
-use Rattle.crude_run.specs.Words.{line_words, IsPlainLine}
+use Rattle.command_line.specs.PlainLine.{IsPlainLine, HasOneCommand}
 use Rattle.crude_run.specs.Files.{Files, bytes, failed, longer}
 use Rattle.crude_run.specs.Solving.{status_of, Solves}
 use Rattle.crude_run.specs.Checking.{Checks}
 use Rattle.crude_run.specs.Replaying.{Replays, Shows}
 use Rattle.crude_run.specs.Answered.{OfPlant, OfFile, OfPlantFile, Serves, CallsFor, Outlet, Answered}
 use Rattle.crude_run.specs.Completeness.{IsAtHand, IsPlantAtHand, NoWriteFailed, HasDossierStatus, HasVerdictStatus, HasReplayStatus, HasShownStatus, IsComplete}
-
--- ---- lines
-
--- words are the plain line of one command alone
-same_plant : (words : List (List ℕ)) (plant other : List ℕ) (ask asked : Ask) → IsPlainLine words (Solve plant ask) → IsPlainLine words (Solve other asked) →
-    other ≡ plant
-same_plant words plant other ask asked first second =
-    let both : line_words (Solve other asked) ≡ line_words (Solve plant ask) = sym second.0 ∙ first.0 in cc
-
-same_ask : HasOneNumber → (words : List (List ℕ)) (plant other : List ℕ) (ask asked : Ask) → IsPlainLine words (Solve plant ask) →
-    IsPlainLine words (Solve other asked) → asked ≡ ask
-same_ask one words plant other ask asked first second =
-    let both : line_words (Solve other asked) ≡ line_words (Solve plant ask) = sym second.0 ∙ first.0 in
-    let slots_word : decimal asked.slots ≡ decimal ask.slots = cc in
-    let nodes_word : decimal asked.nodes ≡ decimal ask.nodes = cc in
-    let range = first.1.1 in
-    let other_range = second.1.1 in
-    let slots : asked.slots ≡ ask.slots = one asked.slots ask.slots (omega (arith, other_range.most_slots)) (omega (arith, range.most_slots)) slots_word in
-    let nodes : asked.nodes ≡ ask.nodes = one asked.nodes ask.nodes (omega (arith, other_range.most_nodes)) (omega (arith, range.most_nodes)) nodes_word in
-    let workers : asked.workers ≡ ask.workers = other_range.workers ∙ sym range.workers in
-    ap (λ n. record { slots = n; nodes = asked.nodes; workers = asked.workers }) slots
-    ∙ ap (λ n. record { slots = ask.slots; nodes = n; workers = asked.workers }) nodes
-    ∙ ap (λ n. record { slots = ask.slots; nodes = ask.nodes; workers = n }) workers
-
--- lines of different lengths
-apart : {P : Type 0} (words : List (List ℕ)) (command other : Command) → (length (line_words command) ≡ length (line_words other) → ⊥) →
-    IsPlainLine words command → IsPlainLine words other → P
-apart words command other lengths first second = absurd (lengths (ap length (sym first.0 ∙ second.0)))
-
--- of one command, whichever it is
-same_command : HasOneNumber → (words : List (List ℕ)) (command other : Command) → IsPlainLine words command → IsPlainLine words other → other ≡ command
-same_command one words (Solve plant ask) (Solve other asked) first second =
-    ap₂ Solve (same_plant words plant other ask asked first second) (same_ask one words plant other ask asked first second)
-same_command one words (Check plant dossier) (Check other another) first second =
-    let both : line_words (Check other another) ≡ line_words (Check plant dossier) = sym second.0 ∙ first.0 in cc
-same_command one words (Solve plant ask) (Check other another) first second =
-    apart words (Solve plant ask) (Check other another) (λ counts. omega (arith, counts)) first second
-same_command one words (Solve plant ask) (Replay other another) first second =
-    apart words (Solve plant ask) (Replay other another) (λ counts. omega (arith, counts)) first second
-same_command one words (Solve plant ask) (Show other) first second =
-    apart words (Solve plant ask) (Show other) (λ counts. omega (arith, counts)) first second
-same_command one words (Check plant dossier) (Solve other asked) first second =
-    apart words (Check plant dossier) (Solve other asked) (λ counts. omega (arith, counts)) first second
-same_command one words (Check plant dossier) (Replay other another) first second =
-    let both : line_words (Replay other another) ≡ line_words (Check plant dossier) = sym second.0 ∙ first.0 in absurd cc
-same_command one words (Check plant dossier) (Show other) first second =
-    apart words (Check plant dossier) (Show other) (λ counts. omega (arith, counts)) first second
-same_command one words (Replay plant plan) (Solve other asked) first second =
-    apart words (Replay plant plan) (Solve other asked) (λ counts. omega (arith, counts)) first second
-same_command one words (Replay plant plan) (Check other another) first second =
-    let both : line_words (Check other another) ≡ line_words (Replay plant plan) = sym second.0 ∙ first.0 in absurd cc
-same_command one words (Replay plant plan) (Replay other another) first second =
-    let both : line_words (Replay other another) ≡ line_words (Replay plant plan) = sym second.0 ∙ first.0 in cc
-same_command one words (Replay plant plan) (Show other) first second =
-    apart words (Replay plant plan) (Show other) (λ counts. omega (arith, counts)) first second
-same_command one words (Show plant) (Solve other asked) first second =
-    apart words (Show plant) (Solve other asked) (λ counts. omega (arith, counts)) first second
-same_command one words (Show plant) (Check other another) first second =
-    apart words (Show plant) (Check other another) (λ counts. omega (arith, counts)) first second
-same_command one words (Show plant) (Replay other another) first second =
-    apart words (Show plant) (Replay other another) (λ counts. omega (arith, counts)) first second
-same_command one words (Show plant) (Show other) first second =
-    let both : line_words (Show other) ≡ line_words (Show plant) = sym second.0 ∙ first.0 in cc
 
 -- ---- statuses
 
@@ -94,7 +32,7 @@ dossier_status parts ask answer solved = by_word solved.dossier.answer refl
     by_word : (word : Word3) → solved.dossier.answer ≡ word → HasDossierStatus parts ask answer.status
     by_word Plan is = inl (solved.status ∙ ap status_of is)
     by_word Infeasible is = inr (inl (solved.status ∙ ap status_of is))
-    by_word Open3 is = inr (inr (inl (solved.status ∙ ap status_of is, open_only)))
+    by_word Open3 is = inr (inr (inl (solved.status ∙ ap status_of is, open_only, not_greedy)))
       where
         open_only : points_of (root_box (plain parts ask.slots)) ≤ ask.nodes + 1 → ⊥
         open_only few =
@@ -102,6 +40,9 @@ dossier_status parts ask answer solved = by_word solved.dossier.answer refl
               | inl none ↦ absurd (let clash : Open3 ≡ Infeasible = sym is ∙ none in cc)
               | inr plan ↦ absurd (let clash : Open3 ≡ Plan = sym is ∙ plan.0 in cc)
             ]
+
+        not_greedy : IsLegal parts (greedy_of parts ask.slots (all_operations parts)) → ⊥
+        not_greedy legal = (let clash : Open3 ≡ Plan = sym is ∙ (solved.solution.no_worse legal).0 in absurd cc)
 
 -- the status of a verdict
 verdict_status : (parts : Parts) (text : List ℕ) (answer : Answer) → Checks parts text answer → HasVerdictStatus answer.status
@@ -144,11 +85,11 @@ of_plant_at_hand files name parts Then answer is owed =
 -- ---- the run
 
 -- what words call for that are the line of a command is what the command calls for
-called : HasOneNumber → (words : List (List ℕ)) (command : Command) (files : Files) (answer : Answer) → IsPlainLine words command → CallsFor words files answer
+called : HasOneCommand → (words : List (List ℕ)) (command : Command) (files : Files) (answer : Answer) → IsPlainLine words command → CallsFor words files answer
     → Serves command files answer
 called one words command files answer line (inl refused) = absurd (refused.0 command line)
 called one words command files answer line (inr (other, plain, serves)) =
-    subst (λ c. Serves c files answer) (same_command one words command other line plain) serves
+    subst (λ c. Serves c files answer) (one words other command plain line) serves
 
 -- a run whose writes did not fail has the status of the answer, or memory was wanting
 ended : (P : ℕ → Type 0) (Owed : Answer → Type 0) (outlet : Outlet) (status : ℕ) → NoWriteFailed outlet → P status_no_memory →
@@ -164,7 +105,7 @@ ended P Owed outlet status sent memory served answered =
     ]
 
 -- so a run is complete
-pub IsComplete-from : HasOneNumber → (words : List (List ℕ)) (files : Files) (outlet : Outlet) (status : ℕ) → Answered (CallsFor words files) outlet status →
+pub IsComplete-from : HasOneCommand → (words : List (List ℕ)) (files : Files) (outlet : Outlet) (status : ℕ) → Answered (CallsFor words files) outlet status →
     IsComplete words files outlet status
 IsComplete-from one words files outlet status answered = record {
   solves = λ plant ask parts line there sent.

@@ -7,8 +7,8 @@ use Rattle.plant_text.specs.PlantText.{plant_of}
 use Rattle.dossier_text.specs.declared.dossier.Word3.{Word3}
 use Rattle.dossier_text.specs.declared.dossier.Word3.TheVariants.{Plan, Infeasible, Open3}
 use Rattle.crude_run.specs.declared.answer.Answer.{Answer}
-use Rattle.crude_run.specs.declared.words.Command.{Command}
-use Rattle.crude_run.specs.declared.words.Command.TheVariants.{Solve, Check, Replay, Show}
+use Rattle.command_line.specs.declared.command.Command.{Command}
+use Rattle.command_line.specs.declared.command.Command.TheVariants.{Solve, Check, Replay, Show, Make, Root, Replan, Recheck}
 use Rattle.crude_run.specs.Files.{Files, FileRead, bytes, failed, longer}
 use Rattle.crude_run.specs.Solving.{status_of, Solves}
 use Rattle.crude_run.specs.Checking.{Checks}
@@ -64,3 +64,7 @@ serves_below (Replay plant plan) files answer (read, may, owed) =
     read_below 1 _ (λ text. plant_below _ (λ parts due second. read_below 2 _ (replays_below parts) second.0 due second.2) (plant_of text)) read answer owed
 serves_below (Show plant) files answer (read, may, owed) =
     read_below 1 _ (λ text. plant_below _ shows_below (plant_of text)) read answer owed
+serves_below (Make number solve) files answer refused = rw refused (omega arith)
+serves_below (Root plant slots) files answer refused = rw refused (omega arith)
+serves_below (Replan plant plan at slots nodes) files answer refused = rw refused (omega arith)
+serves_below (Recheck plant plan dossier at) files answer refused = rw refused (omega arith)

@@ -1,4 +1,4 @@
-pub mod WordLaws
+pub mod CallLaws
 pub mod Ending
 pub mod OpeningLaws
 pub mod CheckLaws

@@ -4,6 +4,7 @@ use Rattle.std.specs.Prelude.{◌⊎◌, IfSome, All}
 use Rattle.std.proofs.lemmas.Int.{ints}
 use Rattle.std.proofs.lemmas.List.{length-map}
 use Rattle.limits.specs.declared.TheConstants.{MOST_NODES, MOST_SLOTS}
+use Rattle.number_laws.specs.Missing.{IsAtMost}
 use Rattle.plant_model.specs.declared.parts.Parts.{Parts}
 use Rattle.plant_model.specs.Parts.{op_count_of}
 use Rattle.slot_box.specs.declared.node.Node.{Node}
@@ -15,10 +16,8 @@ use Rattle.replay_core.specs.Legal.{IsLegal, IsInRange}
 use Rattle.replay_core.specs.declared.planned.Planned.{Planned}
 use Rattle.slot_forms.specs.Cases.{IsCasePlan, plain, root_box}
 use Rattle.leaf_value.specs.Settings.{Setting, plain_setting}
-use Rattle.leaf_value.specs.LeafValue.{IsAtMost}
 use Rattle.leaf_value.specs.TreeValue.{IsLeafValue, NoLeafHasValue, IsBoundOf, TreeBoundsAreTrue}
 use Rattle.plan_text.specs.declared.op_line.OpLine.{OpLine}
-use Rattle.plan_text.specs.OpLine.{IsOpLine}
 use Rattle.dossier_text.specs.declared.dossier.Dossier.{Dossier}
 use Rattle.dossier_text.specs.declared.dossier.Word3.{Word3}
 use Rattle.dossier_text.specs.declared.dossier.Word3.TheVariants.{Plan, Infeasible, Open3}
@@ -117,6 +116,7 @@ module _ (parts : Parts) (n budget : ℕ) (some : 1 ≤ n) (most : n ≤ MOST_SL
     budget_kept = found.budget_kept;
     bound = λ is less. absurd (let clash : Infeasible ≡ Plan = is in cc);
     none_found = λ is. absurd (let clash : Infeasible ≡ Open3 = is in cc);
+    no_worse = λ legal. absurd (found.built legal);
     decided = λ few. inl refl;
   }
     where
@@ -136,6 +136,7 @@ module _ (parts : Parts) (n budget : ℕ) (some : 1 ≤ n) (most : n ≤ MOST_SL
     budget_kept = found.budget_kept;
     bound = λ is less. absurd (let clash : Open3 ≡ Plan = is in cc);
     none_found = λ is. elim (value_cases None (Some bound) found bound found.bound.there) [ inl left ↦ left.0 | inr most ↦ absurd most ];
+    no_worse = λ legal. absurd (found.built legal);
     decided = λ few. absurd (elim (value_cases None (Some bound) found bound found.bound.there) [ inl left ↦ left.1 few | inr most ↦ most ]);
   }
     where
@@ -194,6 +195,7 @@ module _ (parts : Parts) (n budget : ℕ) (some : 1 ≤ n) (most : n ≤ MOST_SL
       budget_kept = found.budget_kept;
       bound = λ is less. unspent less;
       none_found = λ is. absurd (let clash : Plan ≡ Open3 = is in cc);
+      no_worse = λ legal. (refl, found.built.no_worse legal);
       decided = λ few. inr (refl, decided few);
     }
 
@@ -209,12 +211,6 @@ module _ (parts : Parts) (n budget : ℕ) (some : 1 ≤ n) (most : n ≤ MOST_SL
       (IsSolution-plan planned bound lines found are.steps are.numbered (subst (λ m. IfSome m (FitsSigned w64)) margin margin_fits) bound_fits)
 
 -- ---- the lines of a plan
-
-pub AreOpLines-push : (number : ℕ) (lines : List OpLine) (line : OpLine) → AreOpLines number lines → line.number ≡ number + length lines → IsOpLine line →
-    AreOpLines number (lines ++ line ∷ [])
-AreOpLines-push number [] line are next is = (next ∙ omega arith, is, tt)
-AreOpLines-push number (first ∷ lines) line are next is =
-    (are.0, are.1, AreOpLines-push (number + 1) lines line are.2 (next ∙ omega arith) is)
 
 pub plan_of-push : (parts : Parts) (lines : List OpLine) (line : OpLine) → plan_of parts (lines ++ line ∷ []) ≡ plan_of parts lines ++ timed_of parts line ∷ []
 plan_of-push parts [] line = refl

@@ -7,10 +7,10 @@ use Rattle.plant_text.specs.declared.fault.PlantTextFault.{PlantTextFault}
 use Rattle.plant_text.specs.declared.fault.PlantTextFault.TheVariants as fault
 use Rattle.plant_text.specs.PlantText.{plant_of}
 use Rattle.crude_run.specs.declared.answer.Answer.{Answer}
-use Rattle.crude_run.specs.declared.words.Command.{Command}
-use Rattle.crude_run.specs.declared.words.Command.TheVariants.{Solve, Check, Replay, Show}
+use Rattle.command_line.specs.declared.command.Command.{Command}
+use Rattle.command_line.specs.declared.command.Command.TheVariants.{Solve, Check, Replay, Show, Make, Root, Replan, Recheck}
 use Rattle.crude_run.specs.Numbers.{plant_limit, plan_limit, dossier_limit, status_no_memory, status_write_failed}
-use Rattle.crude_run.specs.Words.{IsPlainLine, AreRefused}
+use Rattle.command_line.specs.PlainLine.{IsPlainLine, AreRefused}
 use Rattle.crude_run.specs.Files.{Files, FileRead, bytes, failed, longer, MayGive}
 use Rattle.crude_run.specs.Texts.{words_refused, json_refused, shape_refused, fault_refused, read_failed, too_long}
 use Rattle.crude_run.specs.Solving.{Solves}
@@ -40,6 +40,10 @@ OfFile files number name limit Then answer = (read : FileRead) × MayGive files 
 abbrev pub OfPlantFile : Files → List ℕ → (Parts → Answer → Type 0) → Answer → Type 0
 OfPlantFile files name Then answer = OfFile files 1 name plant_limit (λ text. OfPlant Then (plant_of text)) answer
 
+-- so far the answer to a line of a command that is not built yet: such a line is refused like one that is not plain
+abbrev pub IsNotBuilt : Answer → Type 0
+IsNotBuilt answer = answer ≡ words_refused
+
 -- the answer that a command calls for, by these files
 abbrev pub Serves : Command → Files → Answer → Type 0
 Serves (Solve plant ask) files answer = OfPlantFile files plant (λ parts. Solves parts ask.slots ask.nodes) answer
@@ -48,6 +52,10 @@ Serves (Check plant dossier) files answer =
 Serves (Replay plant plan) files answer =
     OfPlantFile files plant (λ parts. OfFile files 2 plan plan_limit (Replays parts)) answer
 Serves (Show plant) files answer = OfPlantFile files plant Shows answer
+Serves (Make number solve) files answer = IsNotBuilt answer
+Serves (Root plant slots) files answer = IsNotBuilt answer
+Serves (Replan plant plan at slots nodes) files answer = IsNotBuilt answer
+Serves (Recheck plant plan dossier at) files answer = IsNotBuilt answer
 
 -- the answer that words call for: a refusal where they are no plain line, else that of their command
 abbrev pub CallsFor : List (List ℕ) → Files → Answer → Type 0

@@ -3,12 +3,14 @@ use Rattle.std.specs.Prelude.{◌≡◌, ◌⊎◌, ℕ, ◌+◌, ◌≤◌, Lis
 use Rattle.outer_edge.specs.Rose.{Rose}
 use Rattle.plant_model.specs.declared.parts.Parts.{Parts}
 use Rattle.plant_text.specs.PlantText.{plant_of}
+use Rattle.replay_core.specs.Legal.{IsLegal}
+use Rattle.greedy_plan.specs.Greedy.{greedy_of, all_operations}
 use Rattle.slot_box.specs.Boxes.{points_of}
 use Rattle.slot_forms.specs.Cases.{plain, root_box}
-use Rattle.crude_run.specs.declared.words.Ask.{Ask}
-use Rattle.crude_run.specs.declared.words.Command.TheVariants.{Solve, Check, Replay, Show}
+use Rattle.command_line.specs.declared.command.Ask.{Ask}
+use Rattle.command_line.specs.declared.command.Command.TheVariants.{Solve, Check, Replay, Show}
 use Rattle.crude_run.specs.Numbers.{plant_limit, plan_limit, dossier_limit, status_plan_found, status_infeasible, status_none_found, status_accepted, status_not_accepted, status_legal, status_illegal, status_plan_refused, status_shown, status_no_memory}
-use Rattle.crude_run.specs.Words.{IsPlainLine}
+use Rattle.command_line.specs.PlainLine.{IsPlainLine}
 use Rattle.crude_run.specs.Files.{Files}
 use Rattle.crude_run.specs.Answered.{Outlet}
 
@@ -29,11 +31,12 @@ abbrev pub NoWriteFailed : Outlet → Type 0
 NoWriteFailed outlet = Rose outlet.faults_before outlet.faults_after → ⊥
 
 -- the status is that of a dossier, or memory was wanting; that no plan was found it says only with a budget that cannot
--- single out each point of the root box
+-- single out each point of the root box, and where the greedy plan of all operations is not legal
 abbrev pub HasDossierStatus : Parts → Ask → ℕ → Type 0
 HasDossierStatus parts ask status =
     (status ≡ status_plan_found) ⊎ (status ≡ status_infeasible)
-    ⊎ ((status ≡ status_none_found) × (points_of (root_box (plain parts ask.slots)) ≤ ask.nodes + 1 → ⊥))
+    ⊎ ((status ≡ status_none_found) × (points_of (root_box (plain parts ask.slots)) ≤ ask.nodes + 1 → ⊥)
+    × (IsLegal parts (greedy_of parts ask.slots (all_operations parts)) → ⊥))
     ⊎ (status ≡ status_no_memory)
 
 -- the status is that of a verdict, or memory was wanting

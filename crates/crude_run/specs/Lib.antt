@@ -1,6 +1,4 @@
 pub mod Numbers
-pub mod Words
-pub mod WordReading
 pub mod Texts
 pub mod Solving
 pub mod Checking

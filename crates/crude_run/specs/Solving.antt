@@ -1,6 +1,10 @@
 -- What `solve` answers to a plant.
-use Rattle.std.specs.Prelude.{◌≡◌, ◌⊎◌, ◌↔◌, ℕ, ◌+◌, ◌<◌, ◌≤◌}
+use Rattle.std.specs.Prelude.{◌≡◌, ◌⊎◌, ◌↔◌, ℕ, ◌+◌, ◌<◌, ◌≤◌, Some}
 use Rattle.plant_model.specs.declared.parts.Parts.{Parts}
+use Rattle.number_laws.specs.Missing.{IsAtMost}
+use Rattle.replay_core.specs.Legal.{IsLegal}
+use Rattle.replay_core.specs.Margin.{margin_of}
+use Rattle.greedy_plan.specs.Greedy.{greedy_of, all_operations}
 use Rattle.slot_box.specs.Boxes.{points_of}
 use Rattle.slot_box.specs.Nodes.{inner_count}
 use Rattle.slot_forms.specs.Cases.{plain, root_box}
@@ -43,6 +47,10 @@ pub record IsSolution (parts : Parts) (n budget : ℕ) (dossier : Dossier) : Typ
   pub bound : dossier.answer ≡ Plan → dossier.nodes < budget → dossier.bound ≡ dossier.margin
   -- no plan was found only where all were
   pub none_found : dossier.answer ≡ Open3 → dossier.nodes ≡ budget
+  -- where the greedy plan of all operations is legal, it gives a plan, which earns no less
+  pub no_worse : IsLegal parts (greedy_of parts n (all_operations parts))
+      → (dossier.answer ≡ Plan)
+      × IsAtMost (Some (margin_of parts (greedy_of parts n (all_operations parts)))) dossier.margin
   -- a budget of all points of the root box but one decides
   pub decided : points_of (root_box (plain parts n)) ≤ budget + 1
       → (dossier.answer ≡ Infeasible) ⊎ ((dossier.answer ≡ Plan) × (dossier.bound ≡ dossier.margin))

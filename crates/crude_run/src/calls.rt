@@ -1,6 +1,8 @@
-ghost use Rattle.std.specs.Prelude.{map, string_bytes};
+ghost use Rattle.std.specs.Prelude.{◌≡◌, ◌<◌, map, string_bytes};
+ghost use Rattle.command_line.specs.PlainLine.{IsInRange};
+ghost use Rattle.crude_run.specs.Texts.{words_refused};
 ghost use Rattle.crude_run.specs.Files.{files_between};
-ghost use Rattle.crude_run.specs.Answered.{CallsFor, Answered, outlet_between};
+ghost use Rattle.crude_run.specs.Answered.{CallsFor, Serves, Answered, outlet_between};
 ghost use Rattle.crude_run.specs.Completeness.{IsComplete};
 ghost use Rattle.crude_run.specs.Hidden.{HidesNoFault};
 
@@ -11,9 +13,8 @@ use crate::replay::replay_files;
 use crate::send::finish;
 use crate::show::show_file;
 use crate::solve::solve_file_alone;
-use crate::status::{NO_MEMORY, Status};
-use crate::words::{Command, WordFault, read_words};
-use line_text::decimal_laws;
+use crate::status::{NO_MEMORY, Status, WRITE_FAILED};
+use command_line::{Command, WordFault, line_laws, read_words};
 use outer_edge::{Gate, Shelf, Sink};
 use std::alloc::Global;
 
@@ -36,8 +37,17 @@ pub fn run<H: Shelf, K: Sink, G: Gate>(
     ensures hidden { HidesNoFault (files_between H.told H.faults H.longs shelf.old shelf.new)
         (outlet_between K.taken K.faults out.old out.new) result }
 {
-    decimal_laws();
+    line_laws();
     serve(alloc, words, shelf, out, gate)
+}
+
+/// Refuses the words.
+fn refuse_words<K: Sink>(alloc: Global, out: &mut K) -> Status
+    ensures answered { Answered (λ answer. answer ≡ words_refused)
+        (outlet_between K.taken K.faults out.old out.new) result }
+    ensures cut_off { K.faults out.old < K.faults out.new → result ≡ WRITE_FAILED }
+{
+    finish(Err(stop_with(words_refused(alloc))), out)
 }
 
 /// Serves the command of the words, or refuses them.
@@ -55,25 +65,48 @@ fn serve<H: Shelf, K: Sink, G: Gate>(
         (outlet_between K.taken K.faults out.old out.new) result }
 {
     match read_words(alloc, words) {
-        Ok(Command::Solve { plant, ask }) => {
-            solve_file_alone(
-                alloc,
-                plant.as_str(),
-                ask.slots,
-                ask.nodes,
-                shelf,
-                out,
-                gate,
-            )
-        }
-        Ok(Command::Check { plant, dossier }) => {
+        Ok(command) => serve_command(alloc, &command, shelf, out, gate),
+        Err(WordFault::Words) => refuse_words(alloc, out),
+        Err(WordFault::Memory) => Status::new(NO_MEMORY),
+    }
+}
+
+/// Serves the command.
+fn serve_command<H: Shelf, K: Sink, G: Gate>(
+    alloc: Global,
+    command: &Command,
+    shelf: &mut H,
+    out: &mut K,
+    gate: &G,
+) -> Status
+    requires { IsInRange command.now }
+    ensures answered { Answered
+        (Serves command.now (files_between H.told H.faults H.longs shelf.old shelf.new))
+        (outlet_between K.taken K.faults out.old out.new) result }
+    ensures hidden { HidesNoFault (files_between H.told H.faults H.longs shelf.old shelf.new)
+        (outlet_between K.taken K.faults out.old out.new) result }
+{
+    match command {
+        Command::Solve { plant, ask } => solve_file_alone(
+            alloc,
+            plant.as_str(),
+            ask.slots,
+            ask.nodes,
+            shelf,
+            out,
+            gate,
+        ),
+        Command::Check { plant, dossier } => {
             check_files(alloc, plant.as_str(), dossier.as_str(), shelf, out)
         }
-        Ok(Command::Replay { plant, plan }) => {
+        Command::Replay { plant, plan } => {
             replay_files(alloc, plant.as_str(), plan.as_str(), shelf, out)
         }
-        Ok(Command::Show { plant }) => show_file(alloc, plant.as_str(), shelf, out),
-        Err(WordFault::Words) => finish(Err(stop_with(words_refused(alloc))), out),
-        Err(WordFault::Memory) => Status::new(NO_MEMORY),
+        Command::Show { plant } => show_file(alloc, plant.as_str(), shelf, out),
+        // not built yet
+        Command::Make { .. } => refuse_words(alloc, out),
+        Command::Root { .. } => refuse_words(alloc, out),
+        Command::Replan { .. } => refuse_words(alloc, out),
+        Command::Recheck { .. } => refuse_words(alloc, out),
     }
 }

@@ -21,7 +21,6 @@ mod send;
 mod show;
 mod solve;
 mod status;
-mod words;
 
 pub use answer::Answer;
 pub use calls::run;
@@ -33,7 +32,6 @@ pub use status::{
     ACCEPTED, ILLEGAL, INFEASIBLE, LEGAL, NO_MEMORY, NONE_FOUND, NOT_ACCEPTED, PLAN_FOUND,
     PLAN_REFUSED, PLANT_REFUSED, READ_FAILED, SHOWN, Status, TOO_LONG, WORDS_REFUSED, WRITE_FAILED,
 };
-pub use words::{Ask, Command, FileName, WordFault, read_words};
 
 #[cfg(test)]
 mod tests;

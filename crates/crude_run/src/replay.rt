@@ -1,6 +1,6 @@
 ghost use Rattle.std.specs.Prelude.{◌≤◌, ◌⊎◌, ℕ, List, length, IfOk};
 ghost use Rattle.limits.specs.declared.TheConstants.{MOST_STEPS};
-ghost use Rattle.crude_run.specs.declared.words.Command.TheVariants.{Replay};
+ghost use Rattle.command_line.specs.declared.command.Command.TheVariants.{Replay};
 ghost use Rattle.crude_run.specs.Files.{files_between};
 ghost use Rattle.plant_model.specs.declared.parts.Parts.{Parts};
 ghost use Rattle.crude_run.specs.Replaying.{IsLegalReplay, IsIllegalReplay, Replays, HasOneAnswer};

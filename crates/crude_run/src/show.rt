@@ -1,5 +1,5 @@
 ghost use Rattle.std.specs.Prelude.{IfOk};
-ghost use Rattle.crude_run.specs.declared.words.Command.TheVariants.{Show};
+ghost use Rattle.command_line.specs.declared.command.Command.TheVariants.{Show};
 ghost use Rattle.crude_run.specs.Files.{files_between};
 ghost use Rattle.crude_run.specs.Replaying.{Shows};
 ghost use Rattle.crude_run.specs.Answered.{Serves, Answered, outlet_between};

@@ -1,12 +1,12 @@
 ghost use Rattle.std.specs.Prelude.{◌≡◌, ◌≤◌, IfOk};
 ghost use Rattle.limits.specs.declared.TheConstants.{MOST_NODES, MOST_SLOTS};
-ghost use Rattle.crude_run.specs.declared.words.Ask.{Ask};
+ghost use Rattle.command_line.specs.declared.command.Ask.{Ask};
 ghost use Rattle.crude_run.specs.Solving.{Solves, status_of};
 ghost use Rattle.crude_run.specs.Files.{files_between};
 ghost use Rattle.crude_run.specs.Answered.{Serves, Answered, outlet_between};
 ghost use Rattle.crude_run.specs.Hidden.{HidesNoFault};
 ghost use Rattle.crude_run.specs.Stopping.{IfDue, ShowsFaults};
-ghost use Rattle.crude_run.specs.declared.words.Command.TheVariants.{Solve};
+ghost use Rattle.command_line.specs.declared.command.Command.TheVariants.{Solve};
 
 use crate::answer::Answer;
 use crate::conclude::conclude;

@@ -141,18 +141,15 @@ fn says_no_of_a_dossier_on_another_plant(rt: HostRuntime) -> Result<(), Fail> {
     Ok(())
 }
 
-// Three divisions reach no point of `two_vessels`.
+// Three divisions reach no point of `two_vessels`, but a plan is built.
 #[test]
-fn says_yes_of_a_bound_on_a_whole_plant(rt: HostRuntime) -> Result<(), Fail> {
+fn says_yes_of_a_plan_of_a_whole_plant(rt: HostRuntime) -> Result<(), Fail> {
     let plant = two_vessels().as_bytes();
     let line = "solve plant --slots 8 --nodes 3 --workers 1";
     let solved = outcome(rt.alloc(), line, plant, SOUND)?;
-    assert!(rt; solved.claims(4, "\nanswer open\n"), "{solved:?}");
+    assert!(rt; solved.claims(0, "\nanswer plan\n"), "{solved:?}");
     let ended = outcome_with(rt.alloc(), CHECK, plant, solved.written(), SOUND)?;
-    assert!(rt;
-        ended.claims(0, "yes\nanswer open\nmargin none\nbound "),
-        "{ended:?}"
-    );
+    assert!(rt; ended.claims(0, "yes\nanswer plan\nmargin 1"), "{ended:?}");
     Ok(())
 }
 

@@ -1,9 +1,7 @@
 //! What `solve` answers to the plant file that it reads.
 
 use super::runs::{Ended, Outside, SOUND, outcome};
-use super::samples::{
-    late_vessel, one_berth, one_charge, one_charge_open, two_berths, two_vessels, with,
-};
+use super::samples::{late_vessel, one_berth, one_charge, one_dual, two_berths, two_vessels, with};
 use std::alloc::{AllocError, Global};
 use std::process::Abort;
 use std::test::Fail;
@@ -15,9 +13,9 @@ fn solved(alloc: Global, plant: &[u8]) -> Result<Ended, AllocError> {
 }
 
 #[test]
-fn leaves_one_charge_open(rt: HostRuntime) -> Result<(), Fail> {
+fn plans_one_charge_without_a_node(rt: HostRuntime) -> Result<(), Fail> {
     let ended = solved(rt.alloc(), one_charge().as_bytes())?;
-    assert!(rt; ended.is(4, one_charge_open()), "{ended:?}");
+    assert!(rt; ended.is(0, one_dual()), "{ended:?}");
     Ok(())
 }
 

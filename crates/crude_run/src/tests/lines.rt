@@ -1,7 +1,7 @@
 //! Lines of words that are refused, whatever the files are.
 
 use super::runs::{SOUND, outcome};
-use super::samples::one_charge;
+use super::samples::{one_charge, one_dual};
 use std::alloc::{AllocError, Global};
 use std::test::Fail;
 
@@ -42,15 +42,31 @@ fn refuses_words(rt: HostRuntime) -> Result<(), Fail> {
     Ok(())
 }
 
-// Until a run may have several workers, and options any order.
+// Until a run may have several workers, and these commands are built.
 #[test]
 fn refuses_words_so_far(rt: HostRuntime) -> Result<(), Fail> {
     for line in [
         "solve plant --slots 1 --nodes 0 --workers 2",
         "solve plant --slots 1 --nodes 0 --workers 16",
-        "solve plant --nodes 0 --slots 1 --workers 1",
+        "make 0",
+        "make 7 --solve",
+        "root plant --slots 1",
+        "replan plant plan --at 1 --slots 2 --nodes 45",
+        "recheck plant plan dossier --at 1",
     ] {
         assert!(rt; is_refused(rt.alloc(), line)?, "{line}");
+    }
+    Ok(())
+}
+
+#[test]
+fn takes_options_in_any_order(rt: HostRuntime) -> Result<(), Fail> {
+    for line in [
+        "solve plant --slots 1 --workers 1 --nodes 0",
+        "solve plant --workers 1 --nodes 0 --slots 1",
+    ] {
+        let ended = outcome(rt.alloc(), line, one_charge().as_bytes(), SOUND)?;
+        assert!(rt; ended.is(0, one_dual()), "{line}");
     }
     Ok(())
 }

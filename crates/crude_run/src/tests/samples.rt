@@ -85,7 +85,7 @@ pub fn two_vessels() -> &'static str {
     TWO_VESSELS
 }
 
-// What `solve` writes of `one_charge` for one slot and no node: the root stays open.
+// A dossier on `one_charge` that says no more than its bound: the root stays open.
 const ONE_CHARGE_OPEN: &str =
     "crude dossier 1\norder time\nslots 1\nnodes 0\nanswer open\nmargin none\nbound 12\nplan none\ncuts 0\nnode 0 open 1\nend\n";
 
@@ -93,7 +93,8 @@ pub fn one_charge_open() -> &'static str {
     ONE_CHARGE_OPEN
 }
 
-// A dossier on `one_charge`: the plan of four, and its bound by one leaf.
+// What `solve` writes of `one_charge` for one slot, with any number of nodes: the plan of four is built, and closes the
+// root.
 const ONE_DUAL: &str =
     "crude dossier 1\norder time\nslots 1\nnodes 0\nanswer plan\nmargin 12\nbound 12\nplan 1\nop 1 c1 0 2 4\ncuts 0\nnode 0 dual 1\nend\n";
 

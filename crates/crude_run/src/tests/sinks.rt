@@ -1,7 +1,7 @@
 //! What stands in the sink where one of its calls fails.
 
 use super::runs::{Ended, Outside, PIECE, SOUND, outcome};
-use super::samples::{one_charge, one_charge_open};
+use super::samples::{one_charge, one_dual};
 use std::alloc::{AllocError, Global};
 use std::test::Fail;
 
@@ -25,7 +25,7 @@ fn pieces(text: &str, count: u32) -> &str {
 fn keeps_the_pieces_before_a_fault(rt: HostRuntime) -> Result<(), Fail> {
     for call in 1..=12 {
         let ended = failed_at(rt.alloc(), call)?;
-        let taken = pieces(one_charge_open(), call - 1);
+        let taken = pieces(one_dual(), call - 1);
         assert!(rt; ended.is(74, taken), "at call {call}: {ended:?}");
     }
     Ok(())
@@ -34,7 +34,7 @@ fn keeps_the_pieces_before_a_fault(rt: HostRuntime) -> Result<(), Fail> {
 #[test]
 fn needs_no_further_call(rt: HostRuntime) -> Result<(), Fail> {
     let ended = failed_at(rt.alloc(), 13)?;
-    assert!(rt; ended.is(4, one_charge_open()), "{ended:?}");
+    assert!(rt; ended.is(0, one_dual()), "{ended:?}");
     Ok(())
 }
 

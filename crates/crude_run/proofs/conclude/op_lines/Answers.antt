@@ -1,6 +1,7 @@
 use Rattle.std.proofs.Common.{◌≡◌, [], ◌∷◌, ◌++◌, sym, ap₂, ◌∙◌, arith, rules, length-append}
 use Rattle.std.proofs.lemmas.List.{take_more}
-use Rattle.crude_run.proofs.SolutionLaws.{AreOpLines-push, plan_of-push}
+use Rattle.plan_text.proofs.TextLaws.{AreOpLines-push}
+use Rattle.crude_run.proofs.SolutionLaws.{plan_of-push}
 use Rattle.crude_run.proofs.conclude.op_lines.Goals as goal
 
 pub loop-i-preserved : goal.loop-i-preserved

@@ -1,0 +1,2 @@
+pub mod PlainLine
+pub mod inside

@@ -1,0 +1,6 @@
+pub mod PickLaws
+pub mod MadeLists
+pub mod EntryFaults
+pub mod Chosen
+pub mod Sound
+pub mod MadeParts

@@ -1,0 +1,4 @@
+pub mod Picks
+pub mod Choices
+pub mod Made
+pub mod Laws
