@@ -8,7 +8,7 @@ use Rattle.crude_run.specs.Texts.{words_refused}
 use Rattle.crude_run.specs.Answered.{Answered, CallsFor, Outlet, Serves}
 
 -- an answer of the one kind is of the other
-answered_so : (Due Owed : Answer → Type 0) (outlet : Outlet) (status : ℕ) → ((answer : Answer) → Due answer → Owed answer) →
+pub answered_so : (Due Owed : Answer → Type 0) (outlet : Outlet) (status : ℕ) → ((answer : Answer) → Due answer → Owed answer) →
     Answered Due outlet status → Answered Owed outlet status
 answered_so Due Owed outlet status so is = record {
   memory = is.memory;

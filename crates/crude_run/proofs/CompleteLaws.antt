@@ -1,5 +1,5 @@
 -- A run that nothing hindered has served its words.
-use Rattle.std.proofs.Common.{◌≡◌, ℕ, inl, inr, ◌+◌, ◌≤◌, ◌<◌, List, length, refl, sym, ap, ap₂, ◌∙◌, subst, arith}
+use Rattle.std.proofs.Common.{◌≡◌, ℕ, Bool, true, false, inl, inr, ◌+◌, ◌≤◌, ◌<◌, List, length, refl, sym, ap, ap₂, ◌∙◌, subst, arith}
 use Rattle.std.specs.Prelude.{IfSome, decimal}
 use Rattle.std.proofs.lemmas.Bool.{cases_eq}
 use Rattle.plant_model.specs.declared.parts.Parts.{Parts}
@@ -13,15 +13,16 @@ use Rattle.dossier_text.specs.declared.dossier.Word3.TheVariants.{Plan, Infeasib
 use Rattle.crude_run.specs.declared.answer.Answer.{Answer}
 use Rattle.command_line.specs.declared.command.Ask.{Ask}
 use Rattle.command_line.specs.declared.command.Command.{Command}
-use Rattle.command_line.specs.declared.command.Command.TheVariants.{Solve, Check, Replay, Show}
+use Rattle.command_line.specs.declared.command.Command.TheVariants.{Solve, Check, Replay, Show, Make}
 use Rattle.crude_run.specs.Numbers.{plant_limit, status_no_memory, status_write_failed}
 use Rattle.command_line.specs.PlainLine.{IsPlainLine, HasOneCommand}
 use Rattle.crude_run.specs.Files.{Files, bytes, failed, longer}
 use Rattle.crude_run.specs.Solving.{status_of, Solves}
 use Rattle.crude_run.specs.Checking.{Checks}
 use Rattle.crude_run.specs.Replaying.{Replays, Shows}
+use Rattle.crude_run.specs.Making.{Makes}
 use Rattle.crude_run.specs.Answered.{OfPlant, OfFile, OfPlantFile, Serves, CallsFor, Outlet, Answered}
-use Rattle.crude_run.specs.Completeness.{IsAtHand, IsPlantAtHand, NoWriteFailed, HasDossierStatus, HasVerdictStatus, HasReplayStatus, HasShownStatus, IsComplete}
+use Rattle.crude_run.specs.Completeness.{IsAtHand, IsPlantAtHand, NoWriteFailed, HasDossierStatus, HasVerdictStatus, HasReplayStatus, HasShownStatus, HasMadeStatus, IsComplete}
 
 -- ---- statuses
 
@@ -61,6 +62,11 @@ replay_status parts text answer (inr none) = inr (inr (inl (ap (λ a. a.status) 
 -- the status of a plant that is shown
 shown_status : (parts : Parts) (answer : Answer) → Shows parts answer → HasShownStatus answer.status
 shown_status parts answer owed = inl (ap (λ a. a.status) owed)
+
+-- the status of a plant that is made
+made_status : (number : ℕ) (solve : Bool) (answer : Answer) → Makes number solve answer → HasMadeStatus answer.status
+made_status number false answer shown = inl (ap (λ a. a.status) shown)
+made_status number true answer tries = inl (ap (λ a. a.status) tries.says)
 
 -- ---- files at hand
 
@@ -126,4 +132,7 @@ IsComplete-from one words files outlet status answered = record {
       ended HasShownStatus (CallsFor words files) outlet status sent (inr refl)
       (λ answer owed. shown_status parts answer
       (of_plant_at_hand files plant parts Shows answer there (called one words (Show plant) files answer line owed))) answered;
+  makes = λ number solve line sent.
+      ended HasMadeStatus (CallsFor words files) outlet status sent (inr refl)
+      (λ answer owed. made_status number solve answer (called one words (Make number solve) files answer line owed)) answered;
 }

@@ -1,5 +1,5 @@
 -- How a run ends that owed an answer.
-use Rattle.std.proofs.Common.{◌<◌, ℕ, List, Result, Ok, Err, inl, inr, arith}
+use Rattle.std.proofs.Common.{◌<◌, ℕ, Bool, true, false, List, Result, Ok, Err, inl, inr, arith}
 use Rattle.plant_model.specs.declared.parts.Parts.{Parts}
 use Rattle.plant_text.specs.declared.fault.PlantTextFault.{PlantTextFault}
 use Rattle.plant_text.specs.declared.fault.PlantTextFault.TheVariants as fault
@@ -13,6 +13,7 @@ use Rattle.crude_run.specs.Files.{Files, FileRead, bytes, failed, longer}
 use Rattle.crude_run.specs.Solving.{status_of, Solves}
 use Rattle.crude_run.specs.Checking.{Checks}
 use Rattle.crude_run.specs.Replaying.{IsReplay, Replays, Shows}
+use Rattle.crude_run.specs.Making.{Makes}
 use Rattle.crude_run.specs.Answered.{OfPlant, OfRead, Serves}
 
 -- ---- statuses
@@ -40,6 +41,10 @@ replays_below parts text answer (inr none) = rw none.says (omega arith)
 shows_below : (parts : Parts) (answer : Answer) → Shows parts answer → answer.status < 71
 shows_below parts answer owed = rw owed (omega arith)
 
+pub makes_below : (number : ℕ) (solve : Bool) (answer : Answer) → Makes number solve answer → answer.status < 71
+makes_below number false answer owed = rw owed (omega arith)
+makes_below number true answer owed = rw owed.says (omega arith)
+
 plant_below : (Then : Parts → Answer → Type 0) → ((parts : Parts) (answer : Answer) → Then parts answer → answer.status < 71)
     → (read : Result Parts PlantTextFault) (answer : Answer) → OfPlant Then read answer → answer.status < 71
 plant_below Then below (Ok parts) answer owed = below parts answer owed
@@ -64,7 +69,7 @@ serves_below (Replay plant plan) files answer (read, may, owed) =
     read_below 1 _ (λ text. plant_below _ (λ parts due second. read_below 2 _ (replays_below parts) second.0 due second.2) (plant_of text)) read answer owed
 serves_below (Show plant) files answer (read, may, owed) =
     read_below 1 _ (λ text. plant_below _ shows_below (plant_of text)) read answer owed
-serves_below (Make number solve) files answer refused = rw refused (omega arith)
+serves_below (Make number solve) files answer owed = makes_below number solve answer owed
 serves_below (Root plant slots) files answer refused = rw refused (omega arith)
 serves_below (Replan plant plan at slots nodes) files answer refused = rw refused (omega arith)
 serves_below (Recheck plant plan dossier at) files answer refused = rw refused (omega arith)

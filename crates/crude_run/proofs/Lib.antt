@@ -6,3 +6,4 @@ pub mod ReplayLaws
 pub mod SolutionLaws
 pub mod CompleteLaws
 pub mod HiddenLaws
+pub mod MakingLaws

@@ -16,6 +16,7 @@ use Rattle.crude_run.specs.Texts.{words_refused, json_refused, shape_refused, fa
 use Rattle.crude_run.specs.Solving.{Solves}
 use Rattle.crude_run.specs.Checking.{Checks}
 use Rattle.crude_run.specs.Replaying.{Replays, Shows}
+use Rattle.crude_run.specs.Making.{Makes}
 
 -- the answer to what a plant text is: to its plant, or the first reason why it is none
 abbrev pub OfPlant : (Parts → Answer → Type 0) → Result Parts PlantTextFault → Answer → Type 0
@@ -36,7 +37,7 @@ abbrev pub OfFile : Files → ℕ → List ℕ → ℕ → (List ℕ → Answer 
 OfFile files number name limit Then answer = (read : FileRead) × MayGive files name limit read ×
     OfRead number Then read answer
 
--- the answer to the plant file, which every command names first
+-- the answer to the plant file, which a command names first
 abbrev pub OfPlantFile : Files → List ℕ → (Parts → Answer → Type 0) → Answer → Type 0
 OfPlantFile files name Then answer = OfFile files 1 name plant_limit (λ text. OfPlant Then (plant_of text)) answer
 
@@ -52,7 +53,7 @@ Serves (Check plant dossier) files answer =
 Serves (Replay plant plan) files answer =
     OfPlantFile files plant (λ parts. OfFile files 2 plan plan_limit (Replays parts)) answer
 Serves (Show plant) files answer = OfPlantFile files plant Shows answer
-Serves (Make number solve) files answer = IsNotBuilt answer
+Serves (Make number solve) files answer = Makes number solve answer
 Serves (Root plant slots) files answer = IsNotBuilt answer
 Serves (Replan plant plan at slots nodes) files answer = IsNotBuilt answer
 Serves (Recheck plant plan dossier at) files answer = IsNotBuilt answer

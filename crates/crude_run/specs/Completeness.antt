@@ -1,5 +1,5 @@
 -- When a run has done the work that its words ask for, and with which status it ends then.
-use Rattle.std.specs.Prelude.{◌≡◌, ◌⊎◌, ℕ, ◌+◌, ◌≤◌, List, length, Some, Ok}
+use Rattle.std.specs.Prelude.{◌≡◌, ◌⊎◌, ℕ, ◌+◌, ◌≤◌, Bool, List, length, Some, Ok}
 use Rattle.outer_edge.specs.Rose.{Rose}
 use Rattle.plant_model.specs.declared.parts.Parts.{Parts}
 use Rattle.plant_text.specs.PlantText.{plant_of}
@@ -8,8 +8,8 @@ use Rattle.greedy_plan.specs.Greedy.{greedy_of, all_operations}
 use Rattle.slot_box.specs.Boxes.{points_of}
 use Rattle.slot_forms.specs.Cases.{plain, root_box}
 use Rattle.command_line.specs.declared.command.Ask.{Ask}
-use Rattle.command_line.specs.declared.command.Command.TheVariants.{Solve, Check, Replay, Show}
-use Rattle.crude_run.specs.Numbers.{plant_limit, plan_limit, dossier_limit, status_plan_found, status_infeasible, status_none_found, status_accepted, status_not_accepted, status_legal, status_illegal, status_plan_refused, status_shown, status_no_memory}
+use Rattle.command_line.specs.declared.command.Command.TheVariants.{Solve, Check, Replay, Show, Make}
+use Rattle.crude_run.specs.Numbers.{plant_limit, plan_limit, dossier_limit, status_plan_found, status_infeasible, status_none_found, status_accepted, status_not_accepted, status_legal, status_illegal, status_plan_refused, status_shown, status_made, status_no_memory}
 use Rattle.command_line.specs.PlainLine.{IsPlainLine}
 use Rattle.crude_run.specs.Files.{Files}
 use Rattle.crude_run.specs.Answered.{Outlet}
@@ -52,6 +52,10 @@ HasReplayStatus status =
 abbrev pub HasShownStatus : ℕ → Type 0
 HasShownStatus status = (status ≡ status_shown) ⊎ (status ≡ status_no_memory)
 
+-- the plant is made, and tried where that was asked; or memory was wanting
+abbrev pub HasMadeStatus : ℕ → Type 0
+HasMadeStatus status = (status ≡ status_made) ⊎ (status ≡ status_no_memory)
+
 -- a plain line whose files are at hand, the first of them a plant, has been served, unless a write failed or memory was
 -- wanting
 pub record IsComplete (words : List (List ℕ)) (files : Files) (outlet : Outlet) (status : ℕ) : Type 0 where
@@ -66,3 +70,5 @@ pub record IsComplete (words : List (List ℕ)) (files : Files) (outlet : Outlet
       IsAtHand files plan plan_limit file → NoWriteFailed outlet → HasReplayStatus status
   pub shows : (plant : List ℕ) (parts : Parts)
       → IsPlainLine words (Show plant) → IsPlantAtHand files plant parts → NoWriteFailed outlet → HasShownStatus status
+  pub makes : (number : ℕ) (solve : Bool)
+      → IsPlainLine words (Make number solve) → NoWriteFailed outlet → HasMadeStatus status

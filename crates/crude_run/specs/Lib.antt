@@ -3,6 +3,7 @@ pub mod Texts
 pub mod Solving
 pub mod Checking
 pub mod Replaying
+pub mod Making
 pub mod Files
 pub mod Answered
 pub mod Concluding

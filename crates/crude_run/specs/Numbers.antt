@@ -28,6 +28,10 @@ status_illegal = 1
 abbrev pub status_shown : ℕ
 status_shown = 0
 
+-- `make` shows the plant of a number, or has tried it
+abbrev pub status_made : ℕ
+status_made = 0
+
 -- `solve` says that there is no plan
 abbrev pub status_infeasible : ℕ
 status_infeasible = 3
@@ -77,3 +81,13 @@ plan_limit = PLAN_FILE_LIMIT
 -- the most bytes of a dossier
 abbrev pub dossier_limit : ℕ
 dossier_limit = DOSSIER_FILE_LIMIT
+
+-- ---- the trial search of a plant that is made
+
+-- the most operations of its plans
+abbrev pub trial_slots : ℕ
+trial_slots = 2
+
+-- how many nodes it may divide
+abbrev pub trial_budget : ℕ
+trial_budget = 8

@@ -1,17 +1,20 @@
 -- What the program answers: a status, and the whole text that goes with it.
-use Rattle.std.specs.Prelude.{ℕ, ℤ, List, [], ◌∷◌, ◌++◌, Option, codes, decimal}
+use Rattle.std.specs.Prelude.{ℕ, ℤ, ◌+◌, List, [], ◌∷◌, ◌++◌, map, length, Option, codes, decimal}
 use Rattle.line_text.specs.Words.{text_of}
 use Rattle.plant_model.specs.declared.parts.Parts.{Parts}
+use Rattle.plant_model.specs.Parts.{crude_count_of, op_count_of, horizon_of}
 use Rattle.plant_model.specs.declared.place.Place.{Place}
 use Rattle.plant_model.specs.declared.place.PlantFault.{PlantFault}
 use Rattle.plant_text.specs.Canonical.{plant_text_of, place_text_of}
 use Rattle.replay_core.specs.declared.timed.Timed.{Timed}
 use Rattle.replay_core.specs.declared.broken.Broken.{Broken}
 use Rattle.plan_text.specs.Ledger.{ledger_bytes}
+use Rattle.slot_box.specs.Boxes.{points_of}
+use Rattle.slot_forms.specs.Cases.{plain, root_box}
 use Rattle.dossier_text.specs.declared.dossier.Word3.{Word3}
 use Rattle.dossier_text.specs.Text.{claim_lines}
 use Rattle.crude_run.specs.declared.answer.Answer.{Answer}
-use Rattle.crude_run.specs.Numbers.{status_accepted, status_not_accepted, status_legal, status_illegal, status_shown, status_words_refused, status_plant_refused, status_read_failed, status_too_long, status_plan_refused}
+use Rattle.crude_run.specs.Numbers.{status_accepted, status_not_accepted, status_legal, status_illegal, status_shown, status_made, status_words_refused, status_plant_refused, status_read_failed, status_too_long, status_plan_refused, trial_slots, trial_budget}
 
 -- a status with one line
 abbrev pub one_line : ℕ → List ℕ → Answer
@@ -69,3 +72,35 @@ illegal broken = one_line status_illegal (codes "illegal" ++ 32 ∷ decimal brok
 -- the one text of the plant
 abbrev pub shown : Parts → Answer
 shown parts = record { status = status_shown; text = plant_text_of parts }
+
+-- how large the plant is: its crudes, vessels, tanks of both kinds, units and operations, and its horizon
+abbrev pub sizes_of : Parts → List ℕ
+sizes_of parts =
+    crude_count_of parts ∷ length parts.vessels ∷ (length parts.storage + length parts.charging)
+    ∷ length parts.units ∷ op_count_of parts ∷ horizon_of parts ∷ []
+
+-- how many decimal digits the number has
+abbrev pub digits_of : ℕ → ℕ
+digits_of number = length (decimal number)
+
+-- how many points the root box of the trial search has
+abbrev pub trial_points : Parts → ℕ
+trial_points parts = points_of (root_box (plain parts trial_slots))
+
+-- the number, the size of its plant and that of its trial search, and the checker's yes
+abbrev pub trial_lines : ℕ → Parts → List (List (List ℕ))
+trial_lines number parts =
+    (codes "made" ∷ decimal number ∷ [])
+    ∷ (codes "sizes" ∷ map decimal (sizes_of parts))
+    ∷ (codes "points" ∷ decimal (digits_of (trial_points parts)) ∷ [])
+    ∷ (codes "budget" ∷ decimal trial_budget ∷ [])
+    ∷ (codes "verdict" ∷ codes "yes" ∷ [])
+    ∷ []
+
+-- the plant of the number has been tried: these lines, and what the dossier of the trial search says of plans, its
+-- margin and its bound, as it has them
+abbrev pub tried : ℕ → Parts → Word3 → Option ℤ → Option ℤ → Answer
+tried number parts answer margin bound = record {
+  status = status_made;
+  text = text_of (trial_lines number parts) ++ text_of (claim_lines answer margin bound);
+}

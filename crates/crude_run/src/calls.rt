@@ -8,6 +8,7 @@ ghost use Rattle.crude_run.specs.Hidden.{HidesNoFault};
 
 use crate::answer::words_refused;
 use crate::check::check_files;
+use crate::make::make_text;
 use crate::opening::stop_with;
 use crate::replay::replay_files;
 use crate::send::finish;
@@ -103,8 +104,8 @@ fn serve_command<H: Shelf, K: Sink, G: Gate>(
             replay_files(alloc, plant.as_str(), plan.as_str(), shelf, out)
         }
         Command::Show { plant } => show_file(alloc, plant.as_str(), shelf, out),
+        Command::Make { number, solve } => make_text(alloc, *number, *solve, out),
         // not built yet
-        Command::Make { .. } => refuse_words(alloc, out),
         Command::Root { .. } => refuse_words(alloc, out),
         Command::Replan { .. } => refuse_words(alloc, out),
         Command::Recheck { .. } => refuse_words(alloc, out),

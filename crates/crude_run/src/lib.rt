@@ -5,9 +5,10 @@
 //! `Answered` says how a run ends, `CallsFor` what the words call for, and `Serves` what a command
 //! answers by its files. What `solve` owes of a plant is in `specs/Solving.antt`: an accepted dossier,
 //! what it claims, and that it keeps the budget of inner nodes (`leaf_value`). What `check` owes of a dossier is in
-//! `specs/Checking.antt`, what `replay` owes of a plan and `show` of a plant in `specs/Replaying.antt`. That no
-//! fault of the shelf or the sink stays hidden is in `specs/Hidden.antt`. From there the way leads down to plans,
-//! boxes and their values. The search itself is `box_search`; here its finding becomes a dossier.
+//! `specs/Checking.antt`, what `replay` owes of a plan and `show` of a plant in `specs/Replaying.antt`, what `make` owes
+//! of a number in `specs/Making.antt`. That no fault of the shelf or the sink stays hidden is in `specs/Hidden.antt`.
+//! From there the way leads down to plans, boxes and their values. The search itself is `box_search`; here its finding
+//! becomes a dossier.
 #![tactic(auto)]
 
 mod answer;
@@ -15,6 +16,7 @@ mod calls;
 mod check;
 mod conclude;
 mod files;
+mod make;
 mod opening;
 mod replay;
 mod send;
@@ -25,11 +27,12 @@ mod status;
 pub use answer::Answer;
 pub use calls::run;
 pub use check::check_files;
+pub use make::make_text;
 pub use replay::{replay_files, replay_laws};
 pub use show::show_file;
 pub use solve::{solve_alone, solve_file_alone};
 pub use status::{
-    ACCEPTED, ILLEGAL, INFEASIBLE, LEGAL, NO_MEMORY, NONE_FOUND, NOT_ACCEPTED, PLAN_FOUND,
+    ACCEPTED, ILLEGAL, INFEASIBLE, LEGAL, MADE, NO_MEMORY, NONE_FOUND, NOT_ACCEPTED, PLAN_FOUND,
     PLAN_REFUSED, PLANT_REFUSED, READ_FAILED, SHOWN, Status, TOO_LONG, WORDS_REFUSED, WRITE_FAILED,
 };
 

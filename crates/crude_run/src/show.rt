@@ -44,7 +44,7 @@ fn show_plant<H: Shelf>(alloc: Global, plant: &str, shelf: &mut H) -> Result<Ans
 }
 
 /// The answer to a plant.
-fn show(alloc: Global, plant: &Plant) -> Result<Answer, AllocError>
+pub(crate) fn show(alloc: Global, plant: &Plant) -> Result<Answer, AllocError>
     ensures { IfOk result (Shows plant.now) }
 {
     Ok(shown(print_plant(alloc, plant)?))

@@ -14,6 +14,8 @@ pub const LEGAL: u8 = 0;
 pub const ILLEGAL: u8 = 1;
 /// `show` shows the plant.
 pub const SHOWN: u8 = 0;
+/// `make` shows the plant of a number, or has tried it.
+pub const MADE: u8 = 0;
 /// `solve` says that there is no legal plan of at most so many operations.
 pub const INFEASIBLE: u8 = 3;
 /// `solve` found no plan.

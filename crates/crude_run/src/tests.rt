@@ -5,6 +5,7 @@ mod checks;
 mod files;
 mod lines;
 mod long_shelf;
+mod makes;
 mod plans;
 mod replays;
 mod runs;

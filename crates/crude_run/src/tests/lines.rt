@@ -36,6 +36,9 @@ fn refuses_words(rt: HostRuntime) -> Result<(), Fail> {
         "show -plant",
         "show plant more",
         "make",
+        "make 007",
+        "make 4294967296",
+        "make 0 --solve more",
     ] {
         assert!(rt; is_refused(rt.alloc(), line)?, "{line}");
     }
@@ -48,8 +51,6 @@ fn refuses_words_so_far(rt: HostRuntime) -> Result<(), Fail> {
     for line in [
         "solve plant --slots 1 --nodes 0 --workers 2",
         "solve plant --slots 1 --nodes 0 --workers 16",
-        "make 0",
-        "make 7 --solve",
         "root plant --slots 1",
         "replan plant plan --at 1 --slots 2 --nodes 45",
         "recheck plant plan dossier --at 1",
