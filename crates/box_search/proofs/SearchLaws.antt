@@ -22,8 +22,7 @@ use Rattle.replay_core.specs.declared.planned.Planned.{Planned}
 use Rattle.slot_forms.specs.Cases.{plain, root_box}
 use Rattle.slot_forms.specs.Forms.{point_value}
 use Rattle.leaf_value.specs.Settings.{Setting, plain_setting}
-use Rattle.leaf_value.specs.LeafValue.{AreBounding, leaf_value_of}
-use Rattle.leaf_value.specs.PlainValue.{plain_value_of}
+use Rattle.leaf_value.specs.LeafValue.{AreBounding, dual_value_of, leaf_value_of}
 use Rattle.slot_box.specs.Ranges.{IsNodeInRange}
 use Rattle.greedy_plan.specs.Greedy.{all_operations}
 use Rattle.plan_build.specs.Built.{IsBuilt}
@@ -118,6 +117,9 @@ module _ (parts : Parts) (n budget : ℕ) (search : Search) (p : Pending) (state
     waits : IsPending search.tree state.boxes p
     waits = last_waits setting budget search.tickets search.tree state.boxes search.pending p (best_margin search.best) search.bound state.underway
 
+    pub box-sized : length p.bx ≡ n
+    box-sized = state.underway.grown.slots p.id p.bx waits.box ∙ length-replicate n _
+
     settled_by : (leaf : LeafKind) (value higher : Option ℤ) (better : Option Planned) → leaf_value_of setting p.bx leaf ≡ value →
         IsSettled setting search.tickets budget (best_margin better) higher p.bx leaf → IsAtMost (best_margin search.best) (best_margin better) →
         IsGreaterOf search.bound value higher → IfSome better (λ planned. IsPlanOf parts n planned.margin planned.plan) →
@@ -136,7 +138,7 @@ module _ (parts : Parts) (n budget : ℕ) (search : Search) (p : Pending) (state
     bounding = (omega arith, omega arith, λ k d within. absurd (omega arith))
 
     -- closed
-    pub IsSearch-closed : (value : ℤ) (higher : Option ℤ) → value ≡ pos (plain_value_of parts p.bx) → IsAtMost (Some value) (best_margin search.best) →
+    pub IsSearch-closed : (value : ℤ) (higher : Option ℤ) → value ≡ dual_value_of setting p.bx 1 [] → IsAtMost (Some value) (best_margin search.best) →
         IsGreaterOf search.bound (Some value) higher →
         IsSearch parts n budget (record search { tree = set search.tree p.id (Leaf (Dual 1 [])); bound = higher })
     IsSearch-closed value higher is beaten up =
@@ -149,7 +151,7 @@ module _ (parts : Parts) (n budget : ℕ) (search : Search) (p : Pending) (state
         (IsAtMost-refl (best_margin search.best)) up state.plan state.built (omega arith, (omega arith, tt))
 
     -- left open
-    pub IsSearch-open : (value : ℤ) (higher : Option ℤ) → value ≡ pos (plain_value_of parts p.bx) → search.tickets ≡ budget → 2 ≤ points_of p.bx →
+    pub IsSearch-open : (value : ℤ) (higher : Option ℤ) → value ≡ dual_value_of setting p.bx 1 [] → search.tickets ≡ budget → 2 ≤ points_of p.bx →
         IsGreaterOf search.bound (Some value) higher → IsSearch parts n budget (record search { tree = set search.tree p.id (Leaf open_leaf); bound = higher })
     IsSearch-open value higher is spent several up =
         settled_by open_leaf (Some value) higher search.best (ap Some (sym is))
@@ -172,11 +174,8 @@ module _ (parts : Parts) (n budget : ℕ) (search : Search) (p : Pending) (state
         rise.first up (plans either)
         (built-raised parts n (all_operations parts) search.best found better state.built sized_plan rise either) tt
       where
-        sized : length p.bx ≡ n
-        sized = state.underway.grown.slots p.id p.bx waits.box ∙ length-replicate n _
-
         sized_plan : IfSome found (λ planned. IsPlanOf parts n planned.margin planned.plan)
-        sized_plan = subst (λ m. IfSome found (λ planned. IsPlanOf parts m planned.margin planned.plan)) sized plan
+        sized_plan = subst (λ m. IfSome found (λ planned. IsPlanOf parts m planned.margin planned.plan)) box-sized plan
 
         plans : (better ≡ search.best) ⊎ (better ≡ found) → IfSome better (λ planned. IsPlanOf parts n planned.margin planned.plan)
         plans (inl same) = subst (λ b. IfSome b (λ planned. IsPlanOf parts n planned.margin planned.plan)) (sym same) state.plan

@@ -1,19 +1,22 @@
-ghost use Rattle.std.specs.Prelude.{◌≡◌, ◌⊎◌, ◌+◌, ◌-◌, ◌*◌, ◌<◌, ◌≤◌, ◌↔◌, pos, Some, [], ◌∷◌, ◌++◌, length, slice_set, IsTrue, OnOk};
+ghost use Rattle.std.specs.Prelude.{◌≡◌, ◌⊎◌, ◌+◌, ◌-◌, ◌*◌, ◌<◌, ◌≤◌, ◌↔◌, Some, [], ◌∷◌, ◌++◌, length, slice_set, IfOk, IsTrue, OnOk};
 ghost use Rattle.limits.specs.declared.TheConstants.{MOST_NODES, MOST_SLOTS};
 ghost use Rattle.slot_box.specs.declared.node.Node.TheVariants as nodes;
 ghost use Rattle.slot_box.specs.Boxes.{HasOnePoint, points_of};
 ghost use Rattle.slot_box.specs.Splits.{IsLawfulSplit};
 ghost use Rattle.slot_box.specs.Ranges.{IsNodeInRange};
 ghost use Rattle.number_laws.specs.Missing.{greater, IsAtMost};
-ghost use Rattle.leaf_value.specs.PlainValue.{plain_value_of};
+ghost use Rattle.leaf_value.specs.LeafValue.{dual_value_of};
+ghost use Rattle.leaf_value.specs.Scales.{AreScalesOf};
+ghost use Rattle.leaf_value.specs.Settings.{plain_setting};
 ghost use Rattle.box_search.specs.inside.Growing.{open_leaf, tree_divided};
 ghost use Rattle.box_search.specs.inside.Searching.{IsSearch};
 ghost use Rattle.box_search.specs.Searched.{best_margin};
 
 use crate::building::plan_of_box;
 use crate::search::{Pending, Search, open_leaf};
+use crate::worth::value_without_rows;
 use item_lists::Items;
-use leaf_value::{greater, plain_value};
+use leaf_value::{Scales, greater};
 use outer_edge::Gate;
 use plant_model::Plant;
 use replay_core::Planned;
@@ -87,7 +90,7 @@ fn close(
 )
     requires state { IsSearch plant.now slots budget
         (record search.old { pending = search.old.pending ++ pending ∷ [] }) }
-    requires value { value ≡ pos (plain_value_of plant.now pending.bx) }
+    requires value { value ≡ dual_value_of (plain_setting plant.now slots) pending.bx 1 [] }
     requires beaten { IsAtMost (Some value) (best_margin search.old.best) }
     ensures state { IsSearch plant.now slots budget search.new }
     ensures tickets { search.new.tickets ≡ search.old.tickets }
@@ -112,7 +115,7 @@ fn leave_open(
 )
     requires state { IsSearch plant.now slots budget
         (record search.old { pending = search.old.pending ++ pending ∷ [] }) }
-    requires value { value ≡ pos (plain_value_of plant.now pending.bx) }
+    requires value { value ≡ dual_value_of (plain_setting plant.now slots) pending.bx 1 [] }
     requires spent { search.old.tickets ≡ budget }
     requires several { 2 ≤ points_of pending.bx }
     ensures state { IsSearch plant.now slots budget search.new }
@@ -276,7 +279,7 @@ fn build_or_divide<G: Gate>(
     requires most_nodes { budget ≤ MOST_NODES }
     requires left { search.old.tickets < budget }
     requires lawful { IsLawfulSplit pending.bx split }
-    requires value { value ≡ pos (plain_value_of plant.now pending.bx) }
+    requires value { value ≡ dual_value_of (plain_setting plant.now slots) pending.bx 1 [] }
     ensures state { OnOk result (IsSearch plant.now slots budget search.new) }
     ensures less { OnOk result (2 * (budget - search.new.tickets) + length search.new.pending
         < 2 * (budget - search.old.tickets) + length search.old.pending + 1) }
@@ -289,16 +292,36 @@ fn build_or_divide<G: Gate>(
     divide(alloc, plant, slots, budget, gate, search, pending, split)
 }
 
+/// The value of a box that nothing but its own intervals bounds, in margin.
+fn value_of_box(
+    alloc: Global,
+    plant: &Plant,
+    scales: &Scales,
+    slots: u32,
+    budget: u32,
+    search: &Search,
+    pending: &Pending,
+) -> Result<i64, AllocError>
+    requires scales { AreScalesOf plant.now slots scales.now }
+    requires state { IsSearch plant.now slots budget
+        (record search.now { pending = search.now.pending ++ pending.now ∷ [] }) }
+    ensures { IfOk result (λ value. value ≡ dual_value_of (plain_setting plant.now slots) pending.now.bx 1 []) }
+{
+    value_without_rows(alloc, plant, scales, &pending.bx)
+}
+
 /// Examines a box: closes it, replays its one point, divides it, or leaves it open.
 pub(crate) fn examine<G: Gate>(
     alloc: Global,
     plant: &Plant,
+    scales: &Scales,
     slots: u32,
     budget: u32,
     gate: &G,
     search: &mut Search,
     pending: Pending,
 ) -> Result<(), AllocError>
+    requires scales { AreScalesOf plant.now slots scales.now }
     requires state { IsSearch plant.now slots budget
         (record search.old { pending = search.old.pending ++ pending ∷ [] }) }
     requires most_slots { slots ≤ MOST_SLOTS }
@@ -307,7 +330,7 @@ pub(crate) fn examine<G: Gate>(
     ensures less { OnOk result (2 * (budget - search.new.tickets) + length search.new.pending
         < 2 * (budget - search.old.tickets) + length search.old.pending + 1) }
 {
-    let value = plain_value(plant, &pending.bx) as i64;
+    let value = value_of_box(alloc, plant, scales, slots, budget, search, &pending)?;
     if is_beaten(value, margin(&search.best)) {
         close(alloc, plant, slots, budget, search, pending, value);
         return Ok(());

@@ -15,8 +15,6 @@
 mod building;
 mod examine;
 mod search;
+mod worth;
 
 pub use search::{Found, search_boxes};
-
-#[cfg(test)]
-mod tests;

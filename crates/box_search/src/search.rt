@@ -9,6 +9,7 @@ ghost use Rattle.plan_build.specs.Built.{IsBuilt};
 use crate::building::first_plan;
 use crate::examine::examine;
 use item_lists::Items;
+use leaf_value::Scales;
 use outer_edge::Gate;
 use plant_model::Plant;
 use replay_core::Planned;
@@ -103,10 +104,20 @@ pub fn search_boxes<G: Gate>(
     requires most_nodes { budget ≤ MOST_NODES }
     ensures { IfOk result (λ found. IsFound plant.now slots budget found) }
 {
+    let scales = Scales::new(alloc, plant, slots)?;
     let best = first_plan(alloc, plant, slots)?;
     let mut search = begin(alloc, plant, slots, budget, best)?;
     while let Some(pending) = search.pending.pop() {
-        examine(alloc, plant, slots, budget, gate, &mut search, pending)?;
+        examine(
+            alloc,
+            plant,
+            &scales,
+            slots,
+            budget,
+            gate,
+            &mut search,
+            pending,
+        )?;
     }
     Ok(Found {
         tickets: search.tickets,

@@ -25,6 +25,3 @@ pub const MOST_ASKED_WORKERS: u32 = 1;
 
 /// The greatest number of a line: that of a plant that is made.
 pub const MOST_NUMBER: u32 = 4_294_967_295;
-
-#[cfg(test)]
-mod tests;

@@ -17,6 +17,7 @@ use leaf_value::leaf_laws;
 use plan_text::{OpLine, OpLines};
 use plant_model::Plant;
 use replay_core::{Planned, Timed, legal_plan_laws};
+use slot_forms::form_laws;
 use std::alloc::{AllocError, Global};
 
 /// The line of an operation that the plant has.
@@ -111,6 +112,7 @@ pub(crate) fn conclude(
 {
     legal_plan_laws();
     accepted_claim_laws(plant);
+    form_laws(plant);
     leaf_laws(plant);
     let Found {
         tickets,

@@ -9,7 +9,5 @@
 #![tactic(auto)]
 
 mod pool;
-#[cfg(test)]
-mod tests;
 
 pub use pool::{CutPool, CutToken, CutTokens};

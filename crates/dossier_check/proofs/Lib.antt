@@ -9,3 +9,4 @@ pub mod StandLaws
 pub mod GreatestLaws
 pub mod ReasonLaws
 pub mod ClaimLaws
+pub mod VoidLaws

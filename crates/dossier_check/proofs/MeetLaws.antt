@@ -23,16 +23,6 @@ use Rattle.dossier_check.specs.inside.Tests.{Tests}
 use Rattle.dossier_check.specs.inside.Walks.{Keeps, KeepsWith, MeetsInner, Pass, reasons_at, IsMet, Meets}
 use Rattle.dossier_check.proofs.WalkLaws.{IsWalked, walked_stop}
 
--- ---- leaves
-
--- the box of a point against which nothing stands has one point
-pub point_of_none : (setting : Setting) (line : ℕ) (box : List Slot) (leaf : LeafKind) → first_of (leaf_reasons setting line box leaf) ≡ None → leaf ≡ Point →
-    points_of box ≡ 1
-unfolding leaf_reasons
-point_of_none setting line box leaf none is =
-    let at : first_of (leaf_reasons setting line box Point) ≡ None = subst (λ l. first_of (leaf_reasons setting line box l) ≡ None) is none in
-    eqb-true (points_of box) 1 (holds_of_nil _ (reason 8 line) (nil_of_none _ at))
-
 -- ---- inner nodes
 
 -- a ticket is free by what is kept exactly where it is

@@ -18,8 +18,9 @@ use Rattle.slot_box.specs.declared.term.Term.TheVariants.{Row, Cut}
 use Rattle.slot_box.specs.Boxes.{points_of}
 use Rattle.slot_box.specs.Splits.{is_lawful}
 use Rattle.slot_forms.specs.Cases.{root_box}
-use Rattle.leaf_value.specs.Settings.{Setting, has_row, has_cut_row, is_blocked, are_contradictory}
-use Rattle.leaf_value.specs.LeafValue.{IsLawfulTerm, AreLawfulTerms, AreBounding, IsLawfulLeaf}
+use Rattle.leaf_value.specs.Blocked.{is_blocked}
+use Rattle.leaf_value.specs.Settings.{Setting, has_row, has_cut_row}
+use Rattle.leaf_value.specs.LeafValue.{are_contradictory, IsLawfulTerm, AreLawfulTerms, AreBounding, IsLawfulLeaf}
 use Rattle.dossier_check.specs.declared.verdict.Reason.{Reason}
 use Rattle.dossier_check.specs.Earlier.{Holder, is_held, with_node}
 use Rattle.dossier_check.specs.NodeReasons.{reason, term_reasons, terms_reasons, dual_reasons, leaf_reasons, inner_reasons, node_reasons, nodes_reasons}
@@ -81,7 +82,7 @@ module _ (setting : Setting) (line : ℕ) where
 
 -- what a leaf over a box is where nothing stands against it
 abbrev pub LeafPasses : Setting → List Slot → LeafKind → Type 0
-LeafPasses setting box (Dead at) = IsLawfulLeaf setting box (Dead at)
+LeafPasses setting box (Dead at) = is_blocked setting.case box at ≡ true
 LeafPasses setting box (Void terms) = IsLawfulLeaf setting box (Void terms)
 LeafPasses setting box (Dual q terms) = IsLawfulLeaf setting box (Dual q terms)
 LeafPasses setting box (Undone q terms) = IsLawfulLeaf setting box (Undone q terms)
@@ -105,7 +106,7 @@ module _ (setting : Setting) (line : ℕ) where
 
   leaf_of_none : (box : List Slot) (leaf : LeafKind) → leaf_reasons setting line box leaf ≡ [] → LeafPasses setting box leaf
   unfolding leaf_reasons
-  leaf_of_none box (Dead at) none = holds_of_nil (is_blocked setting box at) (reason 7 line) none
+  leaf_of_none box (Dead at) none = holds_of_nil (is_blocked setting.case box at) (reason 7 line) none
   leaf_of_none box (Void terms) none =
       let both = nil_of_append (terms_reasons setting line terms) (unless (are_contradictory setting box terms) (reason 14 line)) none in
       (terms_of_none setting line terms both.0, holds_of_nil (are_contradictory setting box terms) (reason 14 line) both.1)
@@ -115,7 +116,7 @@ module _ (setting : Setting) (line : ℕ) where
 
   none_of_leaf : (box : List Slot) (leaf : LeafKind) → LeafPasses setting box leaf → leaf_reasons setting line box leaf ≡ []
   unfolding leaf_reasons
-  none_of_leaf box (Dead at) passes = nil_of_holds (is_blocked setting box at) (reason 7 line) passes
+  none_of_leaf box (Dead at) passes = nil_of_holds (is_blocked setting.case box at) (reason 7 line) passes
   none_of_leaf box (Void terms) passes =
       joined_nil (terms_reasons setting line terms) (unless (are_contradictory setting box terms) (reason 14 line))
       (none_of_terms setting line terms passes.0) (nil_of_holds (are_contradictory setting box terms) (reason 14 line) passes.1)

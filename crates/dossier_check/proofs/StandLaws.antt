@@ -19,6 +19,7 @@ use Rattle.slot_forms.specs.Cases.{root_box as case_box}
 use Rattle.leaf_value.specs.Settings.{Setting}
 use Rattle.leaf_value.specs.LeafValue.{IsLawfulLeaf}
 use Rattle.leaf_value.specs.TreeValue.{IsLawfulNode, AreLawful}
+use Rattle.leaf_value.proofs.BlockedLaws.{blocked_is_tested}
 use Rattle.leaf_value.proofs.LeafLaws.{IsSearchTree-lawful}
 use Rattle.dossier_check.specs.Earlier.{Holder, holder_of, is_held, part_for}
 use Rattle.dossier_check.specs.inside.Walks.{Pass}
@@ -145,7 +146,7 @@ module _ (setting : Setting) (t first : ℕ) (tree : List Node) (parts : PartsAr
       }
 
   leaf_is : (box : List Slot) (leaf : LeafKind) → IsBox box → LeafPasses setting box leaf → IsLawfulLeaf setting box leaf
-  leaf_is box (Dead at) is passes = passes
+  leaf_is box (Dead at) is passes = (blocked_is_tested setting.case box at).0 passes
   leaf_is box (Void terms) is passes = passes
   leaf_is box (Dual q terms) is passes = passes
   leaf_is box (Undone q terms) is passes = passes
@@ -202,7 +203,7 @@ module _ (setting : Setting) (t first : ℕ) (tree : List Node) (within : NodeBo
       omega arith)
 
   leaf_passes : (box : List Slot) (leaf : LeafKind) → IsBox box → IsLawfulLeaf setting box leaf → LeafPasses setting box leaf
-  leaf_passes box (Dead at) is lawful = lawful
+  leaf_passes box (Dead at) is lawful = (blocked_is_tested setting.case box at).1 lawful
   leaf_passes box (Void terms) is lawful = lawful
   leaf_passes box (Dual q terms) is lawful = lawful
   leaf_passes box (Undone q terms) is lawful = lawful

@@ -1,5 +1,5 @@
 -- One pass over entries, and over nodes.
-use Rattle.std.proofs.Common.{◌≡◌, ℕ, ◌+◌, ◌<◌, ◌≤◌, ℤ, Option, Some, None, List, [], ◌∷◌, length, drop, get_or, refl, sym, ap, ◌∙◌}
+use Rattle.std.proofs.Common.{◌≡◌, ℕ, ◌+◌, ◌<◌, ◌≤◌, ℤ, Option, Some, None, Err, List, [], ◌∷◌, length, drop, get_or, refl, sym, ap, ◌∙◌}
 use Rattle.std.proofs.lemmas.List.{drop_more, drop_all}
 use Rattle.item_lists.specs.Faults.{first_of}
 use Rattle.item_lists.proofs.FaultLaws.{first_of-front, first_of-back}
@@ -8,9 +8,13 @@ use Rattle.slot_box.specs.declared.node.Node.{Node}
 use Rattle.slot_box.specs.declared.term.Term.{Term}
 use Rattle.leaf_value.specs.Settings.{Setting}
 use Rattle.dossier_check.specs.declared.met.Met.{Met}
+use Rattle.dossier_check.specs.declared.entries.Entries.{Entries}
 use Rattle.dossier_check.specs.declared.verdict.Reason.{Reason}
+use Rattle.dossier_check.specs.declared.verdict.Refusal.{Refusal}
+use Rattle.dossier_check.specs.declared.verdict.Refusal.TheVariants.{First, Memory}
 use Rattle.dossier_check.specs.Earlier.{Holder, box_of, with_node}
 use Rattle.dossier_check.specs.NodeReasons.{term_reasons, terms_reasons, nodes_reasons, greatest_value}
+use Rattle.dossier_check.specs.inside.Tests.{Tests}
 use Rattle.dossier_check.specs.inside.Walks.{Keeps, Pass, reasons_at, IsMet}
 
 -- the rest of a list begins with the item of the place
@@ -31,6 +35,13 @@ module _ (setting : Setting) (line i : ℕ) (terms : List Term) (d : Term) (with
   terms-stop found first =
       ap (λ rest. first_of (terms_reasons setting line rest)) (drop_more terms i d within)
       ∙ first_of-front (term_reasons setting line (get_or terms i d)) (terms_reasons setting line (drop (i + 1) terms)) found first
+
+-- the entry of the place is refused, where nothing stands against those before it
+pub terms-refused : (setting : Setting) (line i : ℕ) (terms : List Term) (d : Term) (refusal : Refusal) → i < length terms →
+    first_of (terms_reasons setting line (drop i terms)) ≡ first_of (terms_reasons setting line terms) →
+    Tests {X = Unit {0}} (term_reasons setting line (get_or terms i d)) (Err refusal) → Tests {X = Entries} (terms_reasons setting line terms) (Err refusal)
+terms-refused setting line i terms d (First found) within rest first = sym rest ∙ terms-stop setting line i terms d within found first
+terms-refused setting line i terms d Memory within rest first = tt
 
 -- ---- nodes
 

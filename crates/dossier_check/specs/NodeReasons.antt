@@ -13,8 +13,9 @@ use Rattle.slot_box.specs.declared.term.Term.{Term}
 use Rattle.slot_box.specs.declared.term.Term.TheVariants.{Row, Cut}
 use Rattle.slot_box.specs.Boxes.{points_of}
 use Rattle.slot_box.specs.Splits.{is_lawful}
-use Rattle.leaf_value.specs.Settings.{Setting, has_row, has_cut_row, is_blocked, are_contradictory}
-use Rattle.leaf_value.specs.LeafValue.{leaf_value_of}
+use Rattle.leaf_value.specs.Blocked.{is_blocked}
+use Rattle.leaf_value.specs.LeafValue.{are_contradictory, leaf_value_of}
+use Rattle.leaf_value.specs.Settings.{Setting, has_row, has_cut_row}
 use Rattle.dossier_check.specs.declared.verdict.Reason.{Reason}
 use Rattle.dossier_check.specs.Earlier.{Holder, is_held, box_of, with_node}
 
@@ -49,7 +50,7 @@ dual_reasons setting line q terms =
 -- a leaf: a dead one is not shown to be dead (7); a void one not to be empty (14); the box of a point has more than
 -- one (8)
 unfoldable pub leaf_reasons : Setting → ℕ → List Slot → LeafKind → List Reason
-leaf_reasons setting line box (Dead at) = unless (is_blocked setting box at) (reason 7 line)
+leaf_reasons setting line box (Dead at) = unless (is_blocked setting.case box at) (reason 7 line)
 leaf_reasons setting line box (Void terms) =
     terms_reasons setting line terms ++ unless (are_contradictory setting box terms) (reason 14 line)
 leaf_reasons setting line box (Dual q terms) = dual_reasons setting line q terms

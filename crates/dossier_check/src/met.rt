@@ -1,13 +1,13 @@
 //! What is kept of the nodes that were met: the tickets that are held, and the boxes of the nodes that
 //! are still to come.
 
-ghost use Rattle.std.specs.Prelude.{◌≡◌, ℕ, ◌+◌, ◌*◌, ◌<◌, ◌≤◌, nat_lt, not, ◌&&◌, false, true, List, [], ◌∷◌, Some, None, length, slice_index_or, slice_set, replicate, IfOk};
+ghost use Rattle.std.specs.Prelude.{◌≡◌, ℕ, ◌+◌, ◌*◌, ◌<◌, ◌≤◌, nat_lt, not, ◌&&◌, false, true, List, [], ◌∷◌, Some, None, length, slice_index_or, slice_set, replicate, IfOk, IfSome};
 ghost use Rattle.limits.specs.declared.TheConstants.{MOST_NODES};
 ghost use Rattle.slot_box.specs.declared.slot.Slot.{Slot};
 ghost use Rattle.slot_box.specs.declared.split.Split.{Split};
 ghost use Rattle.slot_box.specs.Splits.{left_of, right_of};
 ghost use Rattle.dossier_check.specs.Earlier.{Holder};
-ghost use Rattle.dossier_check.specs.inside.Walks.{Keeps, KeepsWith};
+ghost use Rattle.dossier_check.specs.inside.Walks.{Keeps, KeepsWith, IsSized};
 
 use slot_box::SlotBox;
 use std::alloc::{AllocError, Global};
@@ -41,7 +41,8 @@ impl Met {
     /// Before any node was met: t tickets, none of them held, and the root box for node 0.
     pub(crate) fn none(alloc: Global, t: u32, root: SlotBox) -> Result<Met, AllocError>
         requires { t ≤ MOST_NODES }
-        ensures { IfOk result (Keeps root t [] 0) }
+        ensures keeps { IfOk result (Keeps root t [] 0) }
+        ensures sized { IfOk result (IsSized (length root)) }
     {
         Ok(Met {
             held: vec![in alloc; false; t as usize]?,
@@ -57,6 +58,8 @@ impl Met {
         ensures held { self.new.held.items ≡ self.old.held.items }
         ensures keeps { (root : List Slot) (t : ℕ) (earlier : List Holder) → Keeps root t earlier id self.old
             → Keeps root t earlier (id + 1) self.new }
+        ensures sized { (n : ℕ) → IsSized n self.old → IsSized n self.new }
+        ensures size { (n : ℕ) → IsSized n self.old → IfSome result (λ bx. length bx ≡ n) }
     {
         self.waiting[id as usize].take()
     }
@@ -81,6 +84,7 @@ impl Met {
             (root box : List Slot) (earlier : List Holder) (split : Split) (id : ℕ)
             → left ≡ left_of box split → right ≡ right_of box split → Keeps root t earlier id self.old
             → KeepsWith root t earlier id box ticket split self.new }
+        ensures sized { (n : ℕ) → length left ≡ n → length right ≡ n → IsSized n self.old → IsSized n self.new }
     {
         self.held[ticket as usize] = true;
         self.waiting[2 * ticket as usize + 1] = Some(left);

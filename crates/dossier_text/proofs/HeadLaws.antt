@@ -46,16 +46,16 @@ format_at-ok bytes rest found =
     behind (fixed_at 1 (codes "crude dossier 1") bytes) _ rest found
     (λ middle first second.
     fixed_at-ok 1 (codes "crude dossier 1") bytes middle first
-    ∙ ap (λ (t : List ℕ). codes "crude dossier 1" ++ 10 ∷ t) (fixed_at-ok 2 (codes "order time") middle rest second))
+    ∙ ap (λ (t : List ℕ). codes "crude dossier 1" ++ 10 ∷ t) (fixed_at-ok 2 (codes "order slots") middle rest second))
 
 pub format_at-again : (rest : List ℕ) → format_at (text_of format_lines ++ rest) ≡ Ok rest
 unfolding format_at format_lines
 format_at-again rest =
     let first : List (List ℕ) = codes "crude" ∷ codes "dossier" ∷ codes "1" ∷ [] in
-    let second : List (List ℕ) = codes "order" ∷ codes "time" ∷ [] in
+    let second : List (List ℕ) = codes "order" ∷ codes "slots" ∷ [] in
     rw (fixed_at-again 1 first (whole_line second ++ rest)
     (literal (codes "crude") refl refl, (literal (codes "dossier") refl refl, (literal (codes "1") refl refl, tt))))
-    (fixed_at-again 2 second rest (literal (codes "order") refl refl, (literal (codes "time") refl refl, tt)))
+    (fixed_at-again 2 second rest (literal (codes "order") refl refl, (literal (codes "slots") refl refl, tt)))
 
 -- ---- a count
 

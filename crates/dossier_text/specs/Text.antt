@@ -16,9 +16,9 @@ answer_word Plan = codes "plan"
 answer_word Infeasible = codes "infeasible"
 answer_word Open3 = codes "open"
 
--- the format, and the order in which the points of boxes are tried as plans
+-- the format, and the order in which the words of forms stand: that of slots
 unfoldable pub format_lines : List (List (List ℕ))
-format_lines = (codes "crude" ∷ codes "dossier" ∷ codes "1" ∷ []) ∷ (codes "order" ∷ codes "time" ∷ []) ∷ []
+format_lines = (codes "crude" ∷ codes "dossier" ∷ codes "1" ∷ []) ∷ (codes "order" ∷ codes "slots" ∷ []) ∷ []
 
 -- the number of slots, and the number of inner nodes
 unfoldable pub size_lines : ℕ → ℕ → List (List (List ℕ))

@@ -48,7 +48,7 @@ pub fn format_at(lines: &mut Lines<'_>) -> Result<(), DossierFault>
     ensures next { OnOk result (lines.new.number ≡ 3) }
 {
     fixed_at(b"crude dossier 1", lines)?;
-    fixed_at(b"order time", lines)
+    fixed_at(b"order slots", lines)
 }
 
 #[tactic(auto, unfolding(crate::specs::inside::HeadReading::count_in))]

@@ -32,6 +32,3 @@ pub use dossier::{CutLine, CutLines, Dossier, Word3};
 pub use fault::DossierFault;
 pub use reading::read_dossier;
 pub use writing::{write_claim, write_dossier};
-
-#[cfg(test)]
-mod tests;

@@ -38,7 +38,7 @@ fn write_claimed(out: &mut Vec<u8>, word: &[u8], number: Option<i64>) -> Result<
 fn write_format(out: &mut Vec<u8>) -> Result<(), AllocError>
     ensures { OnOk result (out.new.items ≡ out.old.items ++ text_of format_lines) }
 {
-    push_text(out, b"crude dossier 1\norder time\n")
+    push_text(out, b"crude dossier 1\norder slots\n")
 }
 
 #[tactic(auto, unfolding(crate::specs::Text::size_lines))]

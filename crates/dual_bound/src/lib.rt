@@ -24,8 +24,6 @@ mod signed;
 mod singles;
 mod sums;
 mod system;
-#[cfg(test)]
-mod tests;
 mod trial;
 mod weigh;
 

@@ -26,7 +26,5 @@ mod ratio;
 mod rounding;
 mod scale;
 mod solving;
-#[cfg(test)]
-mod tests;
 
 pub use rounding::multipliers;

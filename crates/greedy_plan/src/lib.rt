@@ -12,7 +12,5 @@
 mod choice;
 mod growing;
 mod room;
-#[cfg(test)]
-mod tests;
 
 pub use growing::greedy;

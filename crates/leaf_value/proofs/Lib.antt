@@ -1,2 +1,2 @@
-pub mod BoundLaws
+pub mod BlockedLaws
 pub mod LeafLaws

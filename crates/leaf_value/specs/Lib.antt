@@ -1,5 +1,6 @@
-pub mod PlainValue
 pub mod Settings
+pub mod Blocked
 pub mod LeafValue
 pub mod TreeValue
 pub mod Budget
+pub mod Scales

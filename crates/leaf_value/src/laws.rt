@@ -1,13 +1,12 @@
-ghost use Rattle.std.specs.Prelude.{◌≡◌, ℕ, ◌≤◌, List};
-ghost use Rattle.limits.specs.declared.TheConstants.{MOST_SLOTS};
-ghost use Rattle.slot_box.specs.declared.cut.CutParams.{CutParams};
-ghost use Rattle.slot_forms.specs.Cases.{plain};
+ghost use Rattle.std.specs.Prelude.{◌≡◌, List, length};
+ghost use Rattle.slot_box.specs.Boxes.{IsBox};
+ghost use Rattle.slot_forms.specs.Cases.{root_box};
 ghost use Rattle.leaf_value.specs.Settings.{Setting};
 ghost use Rattle.leaf_value.specs.LeafValue.{LeavesReachForms};
 ghost use Rattle.leaf_value.specs.TreeValue.{TreeBoundsAreTrue};
 
+use named_rows::named_row_laws;
 use plant_model::Plant;
-use replay_core::legal_plan_laws;
 use slot_box::{box_laws, tree_laws};
 use slot_forms::form_laws;
 
@@ -15,12 +14,11 @@ use slot_forms::form_laws;
 /// them: a call does nothing and brings the laws.
 pub fn leaf_laws(plant: &Plant)
     ensures leaves { (setting : Setting) → setting.case.parts ≡ plant.now → LeavesReachForms setting }
-    ensures bounds { (n : ℕ) (cuts : List CutParams) → 1 ≤ n → n ≤ MOST_SLOTS
-        → TreeBoundsAreTrue (record { case = plain plant.now n; cuts = cuts }) }
+    ensures bounds { (setting : Setting) → setting.case.parts ≡ plant.now → IsBox (root_box setting.case)
+        → length (root_box setting.case) ≡ setting.case.slots → TreeBoundsAreTrue setting }
 {
-    plant.sound();
-    legal_plan_laws();
     box_laws();
     tree_laws();
     form_laws(plant);
+    named_row_laws(plant);
 }

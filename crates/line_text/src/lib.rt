@@ -28,6 +28,3 @@ pub use printing::{
     push_signed_number, push_text, push_word,
 };
 pub use words::{Words, read_before, split_at_mark};
-
-#[cfg(test)]
-mod tests;

@@ -16,8 +16,6 @@ mod column;
 mod laws;
 mod ranges;
 mod row;
-#[cfg(test)]
-mod tests;
 
 pub use column::{Column, IDLE_ENTRY, Part};
 pub use laws::column_laws;

@@ -1,5 +1,5 @@
 -- What rows that have names say of the forms in a box.
-use Rattle.std.specs.Prelude.{◌≡◌, ℕ, ◌≤◌, pos, ◌≤ℤ◌, ◌<ℤ◌, IsTrue, List, length, All}
+use Rattle.std.specs.Prelude.{◌≡◌, ℕ, ◌-◌, ◌≤◌, pos, ◌≤ℤ◌, ◌<ℤ◌, IsTrue, List, drop, length, All}
 use Rattle.dual_bound.specs.Conditions.{IsWithin}
 use Rattle.dual_bound.specs.Dual.{dual_value, emptiness_sum}
 use Rattle.linear_form.specs.Points.{LiesIn, value_at}
@@ -31,9 +31,9 @@ pub record IsFormIn (parts : Parts) (order : Order) (box : List Slot) (point : L
   pub form : IsTrue (is_form point)
   pub legal : IsLegalIn parts order (word_of point)
 
--- the name is not one of normal order, unless the word is normal
+-- the name is not one of normal order, unless the word is normal from its slot on
 abbrev pub MayBe : Parts → List Entry → RowName → Type 0
-MayBe parts point name = name.family ≡ 13 → IsNormalWord parts (word_of point)
+MayBe parts point name = name.family ≡ 13 → IsNormalWord parts (drop (name.a - 1) (word_of point))
 
 -- the numbers of a form in a box lie in the ranges of the box
 abbrev pub FormsLieInRanges : Parts → Type 0

@@ -10,8 +10,6 @@
 
 mod laws;
 mod rows;
-#[cfg(test)]
-mod tests;
 
 pub use laws::named_row_laws;
 pub use rows::named_row;

@@ -12,8 +12,6 @@
 
 mod laws;
 mod normal;
-#[cfg(test)]
-mod tests;
 
 pub use laws::normal_order_laws;
 pub use normal::normalise;

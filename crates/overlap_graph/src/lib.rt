@@ -13,8 +13,6 @@ mod cover;
 mod laws;
 mod masks;
 mod sets;
-#[cfg(test)]
-mod tests;
 
 pub use cover::{Masks, cliques};
 pub use laws::clique_laws;

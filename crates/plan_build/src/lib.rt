@@ -11,8 +11,6 @@
 
 mod building;
 mod hint;
-#[cfg(test)]
-mod tests;
 
 pub use building::{build, build_within};
 pub use hint::{Hint, OpList};

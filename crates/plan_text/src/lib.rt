@@ -27,6 +27,3 @@ pub use laws::{ledger_laws, plan_text_laws};
 pub use ledger_text::ledger;
 pub use op_line::{OpLine, OpLines, push_op_line, read_op_line};
 pub use plan::{print_plan, read_plan};
-
-#[cfg(test)]
-mod tests;

@@ -12,7 +12,5 @@ mod entries;
 mod making;
 mod operations;
 mod picks;
-#[cfg(test)]
-mod tests;
 
 pub use making::{make, maker_laws};

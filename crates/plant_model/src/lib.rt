@@ -26,8 +26,6 @@ mod place;
 mod place_part;
 mod plant;
 mod relations;
-#[cfg(test)]
-mod tests;
 
 pub use details::{Op, OpKind, PlaceInfo, PlaceKind};
 pub use parts::{

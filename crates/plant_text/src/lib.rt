@@ -34,6 +34,3 @@ pub use fault::PlantTextFault;
 pub use names::{key_name, section_name};
 pub use print::{plant_text_laws, print_place, print_plant};
 pub use read::read_plant;
-
-#[cfg(test)]
-mod tests;

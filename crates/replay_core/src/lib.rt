@@ -28,8 +28,6 @@ mod running;
 mod state;
 mod state_rules;
 mod tally;
-#[cfg(test)]
-mod tests;
 mod timed;
 
 pub use broken::Broken;

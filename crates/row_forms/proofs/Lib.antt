@@ -2,7 +2,7 @@ pub mod RunLaws
 mod FigureLaws
 pub mod ValueLaws
 mod OnceLaws
-mod TermLaws
+pub mod TermLaws
 mod OfColumnLaws
 pub mod PieceLaws
 mod BuildLaws

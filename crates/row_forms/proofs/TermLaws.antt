@@ -76,7 +76,7 @@ factor-small parts column piece =
       | inr not ↦ rw not (omega arith)
     ]
 
-factors-reach : (parts : Parts) (column : Column) (pieces : List Piece) → unsigned_abs (factor_at parts pieces column) * part_reach column.part ≤
+pub factors-reach : (parts : Parts) (column : Column) (pieces : List Piece) → unsigned_abs (factor_at parts pieces column) * part_reach column.part ≤
     sum_by piece_reach pieces
 factors-reach parts column [] = omega arith
 factors-reach parts column (piece ∷ pieces) =

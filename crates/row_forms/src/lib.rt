@@ -16,8 +16,6 @@ mod laws;
 mod piece;
 mod rows;
 mod terms;
-#[cfg(test)]
-mod tests;
 
 pub use laws::row_form_laws;
 pub use piece::{Figure, Inequality, Piece, Which};

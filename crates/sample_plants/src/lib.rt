@@ -1,16 +1,18 @@
-//! Sample plants made of parts, for the tests of the crates above.
+//! Sample plants for the tests of the crates above.
 //!
-//! There are three kinds: [`OneCharge`], one charging tank, one unit, and the charge between them, where a test takes
-//! [`one_charge`] as it is or names what is to be otherwise; [`two_inlets`], two storage tanks that fill one charging
-//! tank; and [`unloading`], vessels that are unloaded, each into a tank of its own.
+//! There are four kinds: [`OneCharge`], one charging tank, one unit, and the charge between them, where a test takes
+//! [`one_charge`] as it is or says what is to be otherwise; [`two_inlets`], two storage tanks that fill one charging
+//! tank; [`unloading`], vessels that are unloaded, each into a tank of its own; and [`two_vessels`], which blends.
 //!
 //! To the crates above this crate promises nothing: no call has a clause, so that the proofs of tests do not
-//! read the numbers, and no crate calls it outside its tests.
+//! read the numbers, and no crate calls it outside its tests. Parts that are refused are told as want of memory.
 #![tactic(auto)]
 
 use item_lists::{Copies, Items};
 use limits::{MOST_SLOTS, MOST_VOLUME};
-use plant_model::{CrudePart, Name, OperationPart, Pair, Parts, TankPart, UnitPart, VesselPart};
+use plant_model::{
+    CrudePart, Name, OperationPart, Pair, Parts, Plant, TankPart, UnitPart, VesselPart,
+};
 use std::alloc::{AllocError, Global};
 
 /// What tells one plant with a single charge from another.
@@ -43,6 +45,22 @@ pub fn one_charge() -> OneCharge {
     }
 }
 
+/// The plant of one charge at a rate of three volume units a minute, at every minute: more than there is.
+pub fn fixed_rate(alloc: Global) -> Result<Plant, AllocError> {
+    let rate = Pair { lo: 4320, hi: 4320 };
+    one_charge().rated(rate, true).plant(alloc)
+}
+
+/// The plant of one charge of which at most one volume unit flows in a minute.
+pub fn slow_charge(alloc: Global) -> Result<Plant, AllocError> {
+    let rate = Pair { lo: 0, hi: 1440 };
+    one_charge().rated(rate, false).plant(alloc)
+}
+
+fn plant_of(alloc: Global, parts: Parts) -> Result<Plant, AllocError> {
+    Plant::new(alloc, parts).map_err(|_| AllocError)
+}
+
 fn name(alloc: Global, text: &str) -> Result<Name, AllocError> {
     Copies::new(alloc, text.as_bytes())
 }
@@ -62,8 +80,35 @@ fn tank(alloc: Global, name_text: &str, amount: i64) -> Result<TankPart, AllocEr
 }
 
 impl OneCharge {
-    /// The parts of the plant, sound or not.
-    pub fn parts(self, alloc: Global) -> Result<Parts, AllocError> {
+    /// The same at this rate, at every minute or not.
+    pub fn rated(self, rate: Pair, continuous: bool) -> OneCharge {
+        OneCharge {
+            rate,
+            continuous,
+            ..self
+        }
+    }
+
+    /// The same whose unit takes at least so many charges.
+    pub fn charged(self, least: i64) -> OneCharge {
+        let charges = Pair {
+            lo: least,
+            hi: self.charges.hi,
+        };
+        OneCharge { charges, ..self }
+    }
+
+    /// The same whose crude earns so much.
+    pub fn earning(self, margin: i64) -> OneCharge {
+        OneCharge { margin, ..self }
+    }
+
+    /// The plant.
+    pub fn plant(self, alloc: Global) -> Result<Plant, AllocError> {
+        plant_of(alloc, self.parts(alloc)?)
+    }
+
+    fn parts(self, alloc: Global) -> Result<Parts, AllocError> {
         Ok(Parts {
             horizon: 2,
             properties: Items::new(alloc),
@@ -105,14 +150,15 @@ impl OneCharge {
     }
 }
 
-/// The parts of a plant of 4 minutes and one crude that earns 1: `T1` and `T2` fill tank `C1`, which holds 2, from `S1`
+/// A plant of 4 minutes and one crude that earns 1: `T1` and `T2` fill tank `C1`, which holds 2, from `S1`
 /// and `S2`, which hold 5 each, and `G` charges the unit from it; each moves 1 to 10 volume units, ten in a minute at
 /// most.
-pub fn two_inlets(alloc: Global) -> Result<Parts, AllocError> {
-    let sample = OneCharge {
-        margin: 1,
-        ..one_charge()
-    };
+pub fn two_inlets(alloc: Global) -> Result<Plant, AllocError> {
+    plant_of(alloc, inlet_parts(alloc)?)
+}
+
+fn inlet_parts(alloc: Global) -> Result<Parts, AllocError> {
+    let sample = one_charge().earning(1);
     let storage = vec![in alloc; tank(alloc, "S1", 5)?, tank(alloc, "S2", 5)?]?;
     let operations = vec![in alloc;
         fast(alloc, "T1", "S1", "C1")?,
@@ -168,10 +214,14 @@ fn no_parts(alloc: Global, horizon: i64) -> Parts {
     }
 }
 
-/// The parts of a plant in which each vessel brings 4 volume units of crude `A`: `u1` may move 1 to 4 of the first
+/// A plant in which each vessel brings 4 volume units of crude `A`: `u1` may move 1 to 4 of the first
 /// one's from its arrival on to tank `S1`, at most two in a minute, `u2` those of the second one to `S2`, and so on to
 /// the ninth.
-pub fn unloading(alloc: Global, horizon: i64, berthed: &[Berthed]) -> Result<Parts, AllocError> {
+pub fn unloading(alloc: Global, horizon: i64, berthed: &[Berthed]) -> Result<Plant, AllocError> {
+    plant_of(alloc, berthed_parts(alloc, horizon, berthed)?)
+}
+
+fn berthed_parts(alloc: Global, horizon: i64, berthed: &[Berthed]) -> Result<Parts, AllocError> {
     let mut parts = no_parts(alloc, horizon);
     let crude = one_charge().crude(alloc)?;
     parts.crudes.push(crude).map_err(|_| AllocError)?;
@@ -181,6 +231,16 @@ pub fn unloading(alloc: Global, horizon: i64, berthed: &[Berthed]) -> Result<Par
         digit = digit.saturating_add(1);
     }
     Ok(parts)
+}
+
+/// A vessel that comes in minute 1 of 4, takes two minutes to unload, and pays 5 for each.
+pub fn late_vessel(alloc: Global) -> Result<Plant, AllocError> {
+    let late = Berthed {
+        arrival: 1,
+        berth: 1,
+        demurrage: 5,
+    };
+    unloading(alloc, 4, &[late])
 }
 
 /// The name of a letter and a digit.
@@ -344,11 +404,15 @@ fn add_unit(alloc: Global, parts: &mut Parts) -> Result<(), AllocError> {
     parts.units.push(unit).map_err(|_| AllocError)
 }
 
-/// The parts of a plant of eight days: vessels `V1` and `V2` bring a million volume units each of crude `A`, which
+/// A plant of eight days: vessels `V1` and `V2` bring a million volume units each of crude `A`, which
 /// earns 9 and has little sulphur, and of `B`, which earns 6 and has much, to the storage tanks `S1` and `S2`; from
 /// both either charging tank, `C1` and `C2`, is filled, and from these a unit is charged at every minute, 2 to 8 times,
 /// from `C1` with at most 150 of sulphur and from `C2` with at most 700.
-pub fn two_vessels(alloc: Global) -> Result<Parts, AllocError> {
+pub fn two_vessels(alloc: Global) -> Result<Plant, AllocError> {
+    plant_of(alloc, blend_parts(alloc)?)
+}
+
+fn blend_parts(alloc: Global) -> Result<Parts, AllocError> {
     let mut parts = no_parts(alloc, 11_520);
     let sulphur = name(alloc, "sulphur")?;
     parts.properties.push(sulphur).map_err(|_| AllocError)?;

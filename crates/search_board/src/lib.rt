@@ -19,8 +19,6 @@ mod known;
 mod margin;
 mod rule;
 mod seat;
-#[cfg(test)]
-mod tests;
 
 pub use board::{Board, Closed, Spent};
 pub use seat::Seat;

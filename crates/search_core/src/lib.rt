@@ -18,8 +18,6 @@ mod machine;
 mod note;
 mod queue;
 mod state;
-#[cfg(test)]
-mod tests;
 mod worker;
 
 pub use event::{CoreFault, Event};

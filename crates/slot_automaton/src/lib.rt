@@ -16,8 +16,6 @@
 mod automaton;
 mod laws;
 mod mask;
-#[cfg(test)]
-mod tests;
 
 pub use automaton::Automaton;
 pub use laws::normal_word_laws;

@@ -1,10 +1,9 @@
 -- The slot forms of legal plans.
 use Rattle.std.proofs.Common.{◌≡◌, ℕ, zero, suc, ◌+◌, ◌-◌, ◌<◌, ◌≤◌, true, List, [], ◌∷◌, ◌++◌, map, length, replicate, max, refl, ap, ◌∙◌, subst, arith}
 use Rattle.std.specs.List.{All, fold, slice_index_or}
-use Rattle.std.specs.Option.{is_none}
-use Rattle.std.proofs.lemmas.Bool.{and_from}
 use Rattle.std.proofs.lemmas.List.{append-nil}
 use Rattle.std.proofs.lemmas.List.Elements.{All-head, All-tail}
+use Rattle.std.proofs.lemmas.List.Sorted.{length_permutation}
 use Rattle.limits.specs.declared.TheConstants.{MOST_VOLUME}
 use Rattle.plant_model.specs.declared.parts.Parts.{Parts}
 use Rattle.plant_model.specs.declared.details.Op.{Op}
@@ -13,16 +12,16 @@ use Rattle.plant_model.specs.Sound.{SoundPlant, SoundOp}
 use Rattle.plant_model.proofs.OpsAreSound.{length-ops_of}
 use Rattle.plant_model.proofs.GreatestVolume.{greatest_volume-le}
 use Rattle.replay_core.specs.declared.timed.Timed.{Timed}
-use Rattle.replay_core.specs.Legal.{first_broken, IsLegal, IsInRange, StepsAreInRange}
+use Rattle.replay_core.specs.Legal.{IsInRange}
 use Rattle.slot_box.specs.declared.slot.Slot.{Slot}
 use Rattle.slot_box.specs.Boxes.{IsPoint, whole_slot}
 use Rattle.slot_box.specs.Entries.{Entry, idle, LiesIn}
-use Rattle.slot_box.specs.Laws.{RootsAreBoxes, RootSlotsMayIdle, RootSlotsMayRun}
-use Rattle.replay_core.specs.declared.order.Order.TheVariants.{ByStart}
+use Rattle.slot_box.specs.Laws.{RootsAreBoxes, RootSlotsMayRun}
 use Rattle.replay_core.specs.Margin.{margin_of}
 use Rattle.replay_core.specs.Claim.{IsPlanOf, IsBound, IsInfeasible}
+use Rattle.slot_words.specs.ByStart.{IsByStart}
 use Rattle.slot_forms.specs.Cases.{IsCasePlan, IsCaseBound, IsCaseInfeasible, PlainCasesSayTheSame, PlainRootsAreBoxes, plain}
-use Rattle.slot_forms.specs.Forms.{word_of, is_all_idle, is_form, entry_of, PlansHaveForms}
+use Rattle.slot_forms.specs.Forms.{word_of, is_all_idle, is_form, entry_of}
 
 -- ---- words and forms
 
@@ -58,6 +57,10 @@ is_form-idle (suc k) = is_all_idle-idle k
 
 pub is_form-form_of : (n : ℕ) (plan : List Timed) → is_form (form_of n plan) ≡ true
 is_form-form_of n plan = is_form-steps plan (replicate (n - length plan) idle) ∙ is_form-idle (n - length plan)
+
+-- sorting by starts keeps the number of operations
+pub sorted_count : (word sorted : List Timed) → IsByStart word sorted → length sorted ≡ length word
+sorted_count word sorted is = length_permutation word sorted is.entries
 
 -- ---- the form of a plan in a box of like slots
 
@@ -115,26 +118,6 @@ runs_in_root parts may_run sound t range =
     let greatest = volume-le-greatest parts t.op known in
     may_run (op_count_of parts) (greatest_volume_of parts) (horizon_of parts) t.op t.start t.end t.volume sound.ops known (omega arith) (omega arith)
     (omega arith)
-
-pub plans_have_forms : (parts : Parts) → RootSlotsMayIdle → RootSlotsMayRun → StepsAreInRange parts → SoundPlant parts → (n : ℕ) →
-    PlansHaveForms (plain parts n)
-plans_have_forms parts may_idle may_run ranges sound n plan is =
-    let whole = whole_slot (op_count_of parts) (greatest_volume_of parts) (horizon_of parts) in
-    let rests : LiesIn whole idle = may_idle (op_count_of parts) (greatest_volume_of parts) (horizon_of parts) sound.ops in
-    let form = form_of n plan in
-    let word : word_of form ≡ plan = word_of-form_of n plan in
-    let short : length plan ≤ n = is.short in
-    let legal : IsLegal parts plan = is.legal in (
-      form,
-      record {
-        there = form_point whole n (n - length plan) plan rests (λ k d within. runs_in_root parts may_run sound _ (ranges ByStart plan legal k d within))
-            (omega arith);
-        lawful = and_from (is_form form) (is_none (first_broken parts (word_of form))) (is_form-form_of n plan)
-            (ap (λ (w : List Timed). is_none (first_broken parts w)) word ∙ ap is_none legal);
-        sought = refl;
-        margin = ap (margin_of parts) word;
-      },
-    )
 
 -- ---- the plain case
 

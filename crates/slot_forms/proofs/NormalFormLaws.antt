@@ -1,8 +1,9 @@
--- Each plan of a case has a normal form: what has begun stays, and the rest takes its normal order behind it.
+-- Each plan of a case has a form that is sought: what has begun stays, and the rest takes its normal order behind it.
 use Rattle.std.proofs.Common.{◌≡◌, inl, inr, ℕ, ◌+◌, ◌-◌, ◌^◌, ◌<◌, ◌≤◌, true, leb, List, [], ◌∷◌, ◌++◌, All, map, length, take, drop, get_or, Option, Some, None, refl, sym, ap, subst, ◌∙◌, arith}
-use Rattle.std.specs.Prelude.{nat_lt, nat_le}
+use Rattle.std.specs.Prelude.{◌&&◌, nat_lt, nat_le}
 use Rattle.std.specs.List.{list_all, filter}
 use Rattle.std.specs.List.Sorted.{IsPermutation}
+use Rattle.std.specs.Option.{is_none}
 use Rattle.std.proofs.lemmas.Bool.{cases_lt, lt-ltb, le-ltb, le-leb, and_from}
 use Rattle.std.proofs.lemmas.List.{append-nil, length-append, take_at, drop_at}
 use Rattle.std.proofs.lemmas.List.Elements.{All-head, All-tail, All-nil, All-cons}
@@ -17,7 +18,7 @@ use Rattle.plant_model.specs.Sound.{SoundPlant}
 use Rattle.replay_core.specs.declared.timed.Timed.{Timed}
 use Rattle.replay_core.specs.declared.order.Order.TheVariants.{ByStart, BySlot}
 use Rattle.replay_core.specs.Rules.{last_start}
-use Rattle.replay_core.specs.Legal.{IsLegal, IsLegalIn, IsInRange, StepsAreInRange}
+use Rattle.replay_core.specs.Legal.{first_broken_in, IsLegal, IsLegalIn, IsInRange, StepsAreInRange}
 use Rattle.replay_core.specs.Margin.{margin_of}
 use Rattle.replay_core.proofs.StepLaws.{CanRun-legal}
 use Rattle.slot_box.specs.declared.slot.Slot.{Slot}
@@ -29,9 +30,8 @@ use Rattle.slot_words.proofs.SortLaws.{rising_plan, RisesFrom}
 use Rattle.slot_words.proofs.SortLaws.RisesFrom.{end, rises}
 use Rattle.normal_order.specs.NormalWords.{AreKnown, IsNormalWord, IsNormalForm}
 use Rattle.normal_order.specs.Laws.{WordsHaveNormalForms}
-use Rattle.slot_forms.specs.Cases.{Begun, fixed_slot, whole_slots}
-use Rattle.slot_forms.specs.Forms.{word_of, is_form, entry_of}
-use Rattle.slot_forms.specs.NormalForms.{PlansHaveNormalForms}
+use Rattle.slot_forms.specs.Cases.{Begun, Case, fixed_slot, plain, whole_slots}
+use Rattle.slot_forms.specs.Forms.{word_of, is_form, entry_of, starts_late, is_lawful_form, PlansHaveForms}
 use Rattle.slot_forms.proofs.FormLaws.{form_of, word_of-steps, word_of-form_of, is_form-steps, is_form-form_of, form_point, runs_in_root}
 
 -- ---- what has begun comes first
@@ -154,10 +154,18 @@ held_form-point parts n held form may_idle may_run sound ranges_held ranges_form
 
 -- ---- each plan of a case
 
-plain_normal_form : (parts : Parts) (slots : ℕ) → RootSlotsMayIdle → RootSlotsMayRun → StepsAreInRange parts → SoundPlant parts → PlansAreSlotLegal parts →
+-- a form whose word breaks no rule and starts late enough is lawful
+lawful_from : (case : Case) (point : List Entry) → starts_late case.begun (word_of point) ≡ true → is_form point ≡ true →
+    IsLegalIn case.parts BySlot (word_of point) → is_lawful_form case point ≡ true
+lawful_from case point late form legal =
+    let word = word_of point in
+    and_from (starts_late case.begun word && is_form point) (is_none (first_broken_in case.parts BySlot word))
+    (and_from (starts_late case.begun word) (is_form point) late form) (ap is_none legal)
+
+plain_form : (parts : Parts) (slots : ℕ) → RootSlotsMayIdle → RootSlotsMayRun → StepsAreInRange parts → SoundPlant parts → PlansAreSlotLegal parts →
     SwapsKeepTheMeaning parts → SwapsKeepTheEntries parts → WordsHaveNormalForms parts →
-    PlansHaveNormalForms (record { parts = parts; slots = slots; begun = None })
-plain_normal_form parts slots may_idle may_run ranges sound by_slot meaning entries forms plan is =
+    PlansHaveForms (record { parts = parts; slots = slots; begun = None })
+plain_form parts slots may_idle may_run ranges sound by_slot meaning entries forms plan is =
     let found = normal_rest parts plan [] plan ranges by_slot meaning entries forms is.legal refl in
     let form = found.0 in
     let has = found.1 in
@@ -167,20 +175,19 @@ plain_normal_form parts slots may_idle may_run ranges sound by_slot meaning entr
       held_form slots [] form,
       record {
         there = held_form-point parts slots [] form may_idle may_run sound has.ranges_held has.ranges_form (omega arith);
-        form = held_form-is slots [] form;
-        legal = subst (IsLegalIn parts BySlot) (sym word) has.legal;
-        margin = ap (margin_of parts) word ∙ has.margin;
+        lawful = lawful_from (plain parts slots) (held_form slots [] form) refl (held_form-is slots [] form)
+            (subst (IsLegalIn parts BySlot) (sym word) has.legal);
         begins = tt;
-        late = refl;
-        normal = subst (IsNormalWord parts) (sym word) has.normal_form.normal;
+        sought = subst (IsNormalWord parts) (sym word) has.normal_form.normal;
+        margin = ap (margin_of parts) word ∙ has.margin;
       },
     )
 
-begun_normal_form : (parts : Parts) (slots : ℕ) (begun : Begun) → RootSlotsMayIdle → RootSlotsMayRun → StepsAreInRange parts → SoundPlant parts →
+begun_form : (parts : Parts) (slots : ℕ) (begun : Begun) → RootSlotsMayIdle → RootSlotsMayRun → StepsAreInRange parts → SoundPlant parts →
     PlansAreSlotLegal parts →
     SwapsKeepTheMeaning parts → SwapsKeepTheEntries parts → WordsHaveNormalForms parts →
-    PlansHaveNormalForms (record { parts = parts; slots = slots; begun = Some begun })
-begun_normal_form parts slots begun may_idle may_run ranges sound by_slot meaning entries forms plan is =
+    PlansHaveForms (record { parts = parts; slots = slots; begun = Some begun })
+begun_form parts slots begun may_idle may_run ranges sound by_slot meaning entries forms plan is =
     let fixed = begun.fixed in
     let rises_all = rising_plan parts plan (CanRun-legal parts ByStart plan is.legal) in
     let parted = parted_at begun.from (last_start []) plan fixed rises_all is.goes_on in
@@ -198,20 +205,20 @@ begun_normal_form parts slots begun may_idle may_run ranges sound by_slot meanin
       held_form n fixed form,
       record {
         there = held_form-point parts n fixed form may_idle may_run sound has.ranges_held has.ranges_form (omega arith);
-        form = held_form-is n fixed form;
-        legal = subst (IsLegalIn parts BySlot) (sym word) has.legal;
-        margin = ap (margin_of parts) word ∙ has.margin;
+        lawful = lawful_from (record { parts = parts; slots = slots; begun = Some begun }) (held_form n fixed form)
+            (ap (list_all (λ (t : Timed). nat_le begun.from t.start)) behind ∙ all_late begun.from form late_form) (held_form-is n fixed form)
+            (subst (IsLegalIn parts BySlot) (sym word) has.legal);
         begins = ap (take (length fixed)) word ∙ take_at fixed form (length fixed) refl;
-        late = ap (list_all (λ (t : Timed). nat_le begun.from t.start)) behind ∙ all_late begun.from form late_form;
-        normal = subst (IsNormalWord parts) (sym behind) has.normal_form.normal;
+        sought = subst (IsNormalWord parts) (sym behind) has.normal_form.normal;
+        margin = ap (margin_of parts) word ∙ has.margin;
       },
     )
 
-pub plans_have_normal_forms : (parts : Parts) (slots : ℕ) (begun : Option Begun) → RootSlotsMayIdle → RootSlotsMayRun → StepsAreInRange parts →
+pub plans_have_forms : (parts : Parts) (slots : ℕ) (begun : Option Begun) → RootSlotsMayIdle → RootSlotsMayRun → StepsAreInRange parts →
     SoundPlant parts →
     PlansAreSlotLegal parts → SwapsKeepTheMeaning parts → SwapsKeepTheEntries parts → WordsHaveNormalForms parts →
-    PlansHaveNormalForms (record { parts = parts; slots = slots; begun = begun })
-plans_have_normal_forms parts slots None may_idle may_run ranges sound by_slot meaning entries forms =
-    plain_normal_form parts slots may_idle may_run ranges sound by_slot meaning entries forms
-plans_have_normal_forms parts slots (Some begun) may_idle may_run ranges sound by_slot meaning entries forms =
-    begun_normal_form parts slots begun may_idle may_run ranges sound by_slot meaning entries forms
+    PlansHaveForms (record { parts = parts; slots = slots; begun = begun })
+plans_have_forms parts slots None may_idle may_run ranges sound by_slot meaning entries forms =
+    plain_form parts slots may_idle may_run ranges sound by_slot meaning entries forms
+plans_have_forms parts slots (Some begun) may_idle may_run ranges sound by_slot meaning entries forms =
+    begun_form parts slots begun may_idle may_run ranges sound by_slot meaning entries forms

@@ -17,6 +17,11 @@ pub record Begun : Type 0 where
   pub fixed : List Timed
   pub from : ℕ
 
+-- how many operations have begun
+abbrev pub begun_count : Option Begun → ℕ
+begun_count None = 0
+begun_count (Some begun) = length begun.fixed
+
 -- a plant, the number of slots, and what has begun; in the plain case nothing has. Planning anew at minute 0 with
 -- nothing fixed is another case
 pub record Case : Type 0 where

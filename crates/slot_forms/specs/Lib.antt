@@ -1,3 +1,2 @@
 pub mod Cases
 pub mod Forms
-pub mod NormalForms

@@ -3,15 +3,18 @@ ghost use Rattle.limits.specs.declared.TheConstants.{MOST_SLOTS};
 ghost use Rattle.replay_core.specs.Claim.{IsPlanOf};
 ghost use Rattle.slot_box.specs.Boxes.{HasOnePoint, slot_at, only_entry, only_point};
 ghost use Rattle.slot_box.specs.Entries.{idle};
+ghost use Rattle.slot_words.specs.ByStart.{IsByStart};
 ghost use Rattle.slot_forms.specs.Cases.{plain};
-ghost use Rattle.slot_forms.specs.Forms.{word_of, is_form, entry_of, plan_of_word, point_value};
+ghost use Rattle.slot_forms.specs.Forms.{word_of, is_form, entry_of, point_value};
 
 use plant_model::Plant;
-use replay_core::{Plan, Planned, ReplayFault, Timed, replay};
+use replay_core::{Plan, Planned, ReplayFault, Timed};
 use slot_box::SlotBox;
+use slot_words::{Word, by_start, slot_replay};
 use std::alloc::{AllocError, Global};
 
-/// The value of the one point of a box, with the plan that it is, where it has a value.
+/// The value of the one point of a box, where it has one, with its plan: the operations by their starts.
+#[tactic(auto, using(crate::proofs::FormLaws::sorted_count))]
 pub fn point_value(
     alloc: Global,
     plant: &Plant,
@@ -21,16 +24,16 @@ pub fn point_value(
     ensures value { IfOk result (λ found. option_map (λ planned. planned.margin) found
         ≡ point_value (plain plant.now (length bx.now)) (only_point bx.now)) }
     ensures point { IfOk result (λ found. IfSome found (λ planned.
-        planned.plan ≡ plan_of_word (word_of (only_point bx.now)))) }
+        IsByStart (word_of (only_point bx.now)) planned.plan)) }
     ensures plan { IfOk result (λ found. IfSome found (λ planned.
         IsPlanOf plant.now (length bx.now) planned.margin planned.plan)) }
 {
     let Some(word) = only_word(alloc, bx)? else {
         return Ok(None);
     };
-    match replay(alloc, plant, word.as_slice()) {
+    match slot_replay(alloc, plant, &word) {
         Ok(outcome) => Ok(Some(Planned {
-            plan: word,
+            plan: Plan::from_vec(by_start(plant, word)?.into_vec()),
             margin: outcome.margin,
         })),
         Err(ReplayFault::Rule(_)) => Ok(None),
@@ -39,7 +42,7 @@ pub fn point_value(
 }
 
 /// The word of the one point of a box, where the point is a slot form.
-fn only_word(alloc: Global, bx: &SlotBox) -> Result<Option<Plan>, AllocError>
+fn only_word(alloc: Global, bx: &SlotBox) -> Result<Option<Word>, AllocError>
     ensures value { IfOk result
         (λ found. found ≡ (if is_form (only_point bx.now) then Some (word_of (only_point bx.now)) else None)) }
     ensures short { IfOk result (λ found. IfSome found (λ steps. length steps ≤ length bx.now)) }
@@ -54,7 +57,7 @@ fn only_word(alloc: Global, bx: &SlotBox) -> Result<Option<Plan>, AllocError>
             Some(step) => steps.push(step).map_err(|_: Timed| AllocError)?,
         }
     }
-    Ok(Some(steps))
+    Ok(Some(Word::from_vec(steps.into_vec())))
 }
 
 /// The operation that the one point of a box has in the slot of this number, from 1.

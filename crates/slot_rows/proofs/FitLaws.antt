@@ -40,7 +40,7 @@ range-at parts box column is =
 span-reach : (s : Span) (most : ℕ) → s.lo ≤ s.hi → s.hi ≤ most → reach_of (interval_of s) ≤ most
 span-reach s most ordered small = omega arith
 
-column-reach : (parts : Parts) (box : List Slot) (column : Column) → SoundPlant parts → IsBox box → IsColumn (extent_of parts (length box)) column →
+pub column-reach : (parts : Parts) (box : List Slot) (column : Column) → SoundPlant parts → IsBox box → IsColumn (extent_of parts (length box)) column →
     reach_of (range_of (ranges_of parts box) column) ≤ part_reach column.part
 unfolding ranges_of
 column-reach parts box column sound is there =

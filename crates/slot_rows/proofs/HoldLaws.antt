@@ -1,5 +1,5 @@
 -- Each row of a name holds, family by family.
-use Rattle.std.proofs.Common.{◌≡◌, ℕ, zero, suc, ◌<◌, ◌≤◌, Bool, true, false, List, length, get_or, ap, sym, subst, ◌∙◌, refl, arith}
+use Rattle.std.proofs.Common.{◌≡◌, ℕ, zero, suc, ◌-◌, ◌<◌, ◌≤◌, Bool, true, false, List, drop, length, get_or, ap, sym, subst, ◌∙◌, refl, arith}
 use Rattle.std.specs.Prelude.{◌&&◌, ◌==◌, nat_lt, nat_le, if◌then◌else◌, Option, None, Some, All}
 use Rattle.std.specs.Option.{option_map}
 use Rattle.std.proofs.lemmas.Bool.{and_parts, eqb-true}
@@ -112,7 +112,7 @@ module _ (parts : Parts) (n : ℕ) (word : List Timed) (name : RowName) (sound :
       let slots = slots-inside n name.b name.c both.1 in
       clique-holds parts n word (get_or cliques name.a 0) name.b name.c sound run (are name.a 0 (below name.a (length cliques) both.0)) slots.0 slots.1 slots.2
 
-  normal_name-holds : IsNormalWord parts word → is_normal_name parts n name ≡ true → Holds parts n word (normal_row name.a name.b name.c)
+  normal_name-holds : IsNormalWord parts (drop (name.a - 1) word) → is_normal_name parts n name ≡ true → Holds parts n word (normal_row name.a name.b name.c)
   normal_name-holds normal is =
       let free = and_parts _ (independent_of parts name.b name.c) is in
       let unused = and_parts _ (name.d == 0) free.0 in

@@ -1,6 +1,7 @@
 pub mod GivenLaws
 pub mod SpanLaws
 pub mod FitLaws
+mod PlainLaws
 mod StandLaws
 mod OneSlotLaws
 mod PairLaws

@@ -120,21 +120,13 @@ berth-holds parts n word i j x y sound run some order within first_known second_
 
 -- ---- normal order
 
-ops-split : (front back : List Timed) (a b : Timed) → ops_of (front ++ a ∷ b ∷ back) ≡ ops_of front ++ a.op ∷ b.op ∷ ops_of back
-ops-split [] back a b = refl
-ops-split (t ∷ front) back a b = ap (λ (ops : List ℕ). t.op ∷ ops) (ops-split front back a b)
+-- from its slot on, a word is two operations and the rest
+from-slot : (word : List Timed) (k : ℕ) → k + 1 < length word → drop k word ≡ step_at word k ∷ step_at word (k + 1) ∷ drop (k + 1 + 1) word
+from-slot word k within =
+    drop_more word k no_step (omega arith) ∙ ap (λ (rest : List Timed). step_at word k ∷ rest) (drop_more word (k + 1) no_step within)
 
-in_two : (front back : List ℕ) (a b : ℕ) → front ++ a ∷ b ∷ back ≡ front ++ a ∷ [] ++ b ∷ back
-in_two [] back a b = refl
-in_two (x ∷ front) back a b = ap (λ (ops : List ℕ). x ∷ ops) (in_two front back a b)
-
-word-split : (word : List Timed) (k : ℕ) → k + 1 < length word → word ≡ take k word ++ step_at word k ∷ step_at word (k + 1) ∷ drop (k + 1 + 1) word
-word-split word k within =
-    sym (take-append-drop k word)
-    ∙ ap (λ (rest : List Timed). take k word ++ rest)
-    (drop_more word k no_step (omega arith) ∙ ap (λ (rest : List Timed). step_at word k ∷ rest) (drop_more word (k + 1) no_step within))
-
-pub normal-holds : (parts : Parts) (n : ℕ) (word : List Timed) (slot x y : ℕ) → SoundPlant parts → IsRun parts word → IsNormalWord parts word →
+pub normal-holds : (parts : Parts) (n : ℕ) (word : List Timed) (slot x y : ℕ) → SoundPlant parts → IsRun parts word →
+    IsNormalWord parts (drop (slot - 1) word) →
     1 ≤ slot → slot < n → x < op_count_of parts → y < x → independent_of parts x y ≡ true → Holds parts n word (normal_row slot x y)
 normal-holds parts n word slot x y sound run normal some before known less independent =
     not_both-holds parts n word slot x (slot + 1) y sound run some (omega arith) (omega arith) known (omega arith)
@@ -143,9 +135,7 @@ normal-holds parts n word slot x y sound run normal some before known less indep
     let next : slot + 1 - 1 ≡ k + 1 = omega arith in
     let second : (step_at word (k + 1)).op ≡ y = ap (λ (j : ℕ). (step_at word j).op) (sym next) ∙ there.1 in
     let there_too = there.0 in
-    let split = ap ops_of (word-split word k (omega arith)) ∙ (ops-split (take k word) (drop (k + 1 + 1) word) (step_at word k) (step_at word (k + 1))
-    ∙ ap₂ (λ (b a : ℕ). ops_of (take k word) ++ b ∷ a ∷ ops_of (drop (k + 1 + 1) word)) here.1 second) in
+    let rest = drop (k + 1 + 1) word in
+    let ops = ap ops_of (from-slot word k (omega arith)) ∙ ap₂ (λ (b a : ℕ). b ∷ a ∷ ops_of rest) here.1 second in
     let free = (independent_is parts y x (omega arith) known).1 (independent_of-symmetric parts y x ∙ independent) in
-    normal (ops_of (take k word)) [] (ops_of (drop (k + 1 + 1) word)) x y
-    (split ∙ in_two (ops_of (take k word)) (ops_of (drop (k + 1 + 1) word)) x y)
-    (record { less = less; of_first = free; of_between = λ i d inside. absurd (omega arith) }))
+    normal [] [] (ops_of rest) x y ops (record { less = less; of_first = free; of_between = λ i d inside. absurd (omega arith) }))

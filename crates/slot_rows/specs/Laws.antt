@@ -1,5 +1,5 @@
 -- That the rows on slots and operations hold.
-use Rattle.std.specs.Prelude.{◌≡◌, ◌≢◌, ℕ, ◌≤◌, List, length, All, Some}
+use Rattle.std.specs.Prelude.{◌≡◌, ◌≢◌, ℕ, ◌-◌, ◌≤◌, List, drop, length, All, Some}
 use Rattle.linear_form.specs.Points.{IsMet}
 use Rattle.linear_form.specs.Rows.{RowForm}
 use Rattle.normal_order.specs.NormalWords.{IsNormalWord}
@@ -12,9 +12,9 @@ use Rattle.row_forms.specs.Numbers.{numbers_of}
 use Rattle.slot_box.specs.declared.term.RowName.{RowName}
 use Rattle.slot_rows.specs.SlotRows.{slot_row_of}
 
--- the row is of the family of normal order, and the word is normal; or it is of another family
+-- the row is of the family of normal order, and the word is normal from the row's slot on; or it is of another family
 abbrev pub IsNormalWhereAsked : Parts → List Timed → RowName → Type 0
-IsNormalWhereAsked parts word name = name.family ≡ 13 → IsNormalWord parts word
+IsNormalWhereAsked parts word name = name.family ≡ 13 → IsNormalWord parts (drop (name.a - 1) word)
 
 -- each row holds at the form of every word that breaks no rule, whatever order is asked for; a row of normal order where
 -- the word is normal

@@ -19,8 +19,6 @@ mod laws;
 mod names;
 mod rows;
 mod spans;
-#[cfg(test)]
-mod tests;
 
 pub use box_ranges::ranges;
 pub use gains::objective;

@@ -11,8 +11,6 @@
 #![tactic(auto)]
 
 mod laws;
-#[cfg(test)]
-mod tests;
 mod words;
 
 pub use laws::word_laws;

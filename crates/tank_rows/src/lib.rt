@@ -12,8 +12,6 @@ mod families;
 mod laws;
 mod names;
 mod rows;
-#[cfg(test)]
-mod tests;
 
 pub use laws::tank_row_laws;
 pub use rows::tank_row;

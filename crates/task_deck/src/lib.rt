@@ -17,8 +17,6 @@ mod door;
 mod ends;
 mod hand;
 mod owner;
-#[cfg(test)]
-mod tests;
 
 pub use accounts::account;
 pub use ends::{Account, Door, DoorPass, DoorPasses, Doors, Owner, Stolen};

@@ -1,5 +1,5 @@
 -- What the checker keeps of the nodes that it has met.
-use Rattle.std.specs.Prelude.{◌≡◌, ℕ, ◌+◌, ◌*◌, ◌<◌, ◌≤◌, false, ℤ, List, ◌∷◌, length, slice_index_or, Option, Some, None, Result, Ok, Err, ⊤}
+use Rattle.std.specs.Prelude.{◌≡◌, ℕ, ◌+◌, ◌*◌, ◌<◌, ◌≤◌, false, ℤ, List, ◌∷◌, length, slice_index_or, Option, Some, None, IfSome, Result, Ok, Err, ⊤}
 use Rattle.item_lists.specs.Faults.{first_of}
 use Rattle.limits.specs.declared.TheConstants.{MOST_CUTS, MOST_SLOTS}
 use Rattle.plant_model.specs.declared.parts.Parts.{Parts}
@@ -27,6 +27,10 @@ pub record Keeps (root : List Slot) (t : ℕ) (earlier : List Holder) (id : ℕ)
   pub held : (ticket : ℕ) → ticket < t → slice_index_or met.held.items ticket false ≡ is_held ticket earlier
   pub waiting : (k : ℕ) → id ≤ k → k < 2 * t + 1
       → slice_index_or met.waiting.items k None ≡ box_of root earlier k
+
+-- each box that waits has so many slots
+abbrev pub IsSized : ℕ → Met → Type 0
+IsSized n met = (k : ℕ) → IfSome (slice_index_or met.waiting.items k None) (λ box. length box ≡ n)
 
 -- an inner node was met, and is kept
 abbrev pub KeepsWith : List Slot → ℕ → List Holder → ℕ → List Slot → ℕ → Split → Met → Type 0

@@ -24,7 +24,7 @@ fixed_at line text bytes = do
 unfoldable pub format_at : List ℕ → Result (List ℕ) DossierFault
 format_at bytes = do
   rest ← fixed_at 1 (codes "crude dossier 1") bytes
-  fixed_at 2 (codes "order time") rest
+  fixed_at 2 (codes "order slots") rest
 
 -- a word and a number of 32 bits, which is to be at most so much
 unfoldable pub count_in : ℕ → List ℕ → ℕ → List ℕ → Result ℕ DossierFault

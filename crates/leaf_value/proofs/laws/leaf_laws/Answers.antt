@@ -1,29 +1,25 @@
 use Rattle.std.proofs.Common.{◌≡◌, sym, subst}
-use Rattle.std.proofs.lemmas.List.{length-replicate}
-use Rattle.plant_model.specs.declared.parts.Parts.{Parts}
-use Rattle.replay_core.specs.Legal.{StepsAreInRange}
-use Rattle.replay_core.specs.Margin.{MarginIsBounded}
-use Rattle.slot_forms.specs.Cases.{plain}
-use Rattle.leaf_value.proofs.BoundLaws.{plain_values_bound}
+use Rattle.named_rows.specs.Laws.{DualValuesBoundMargins, EmptyBoxesHaveNoForm}
+use Rattle.slot_forms.specs.Forms.{PlansHaveForms}
+use Rattle.leaf_value.specs.Settings.{Setting}
+use Rattle.leaf_value.specs.LeafValue.{LeavesReachForms}
 use Rattle.leaf_value.proofs.LeafLaws.{leaves_reach_forms, tree_bounds_are_true}
 use Rattle.leaf_value.proofs.laws.leaf_laws.Goals as goal
 
 pub returns : goal.returns
 returns c =
-    let parts = c.args.plant.now in
-    let sound = c.sound.ensures.plant in
     let boxes = c.box_laws.ensures in
-    let plans = c.legal_plan_laws.ensures in
     let trees = c.tree_laws.ensures in
     let forms = c.form_laws.ensures in
+    let rows = c.named_row_laws.ensures in
+    let reach = λ (setting : Setting) (same : setting.case.parts ≡ c.args.plant.now).
+    leaves_reach_forms setting boxes.only (subst DualValuesBoundMargins (sym same) rows.bounds)
+    (subst EmptyBoxesHaveNoForm (sym same) rows.empty) in
     record {
-      leaves = λ setting same.
-          leaves_reach_forms setting boxes.only
-          (plain_values_bound setting.case boxes.live (subst StepsAreInRange (sym same) (plans.ranges parts))
-          (subst MarginIsBounded (sym same) (plans.margin parts sound)));
-      bounds = λ n cuts some most.
-          tree_bounds_are_true (record { case = plain parts n; cuts = cuts }) trees.cover trees.within (forms.boxes n some most) (length-replicate n _)
-          (forms.forms n)
-          (leaves_reach_forms (record { case = plain parts n; cuts = cuts }) boxes.only
-          (plain_values_bound (plain parts n) boxes.live (plans.ranges parts) (plans.margin parts sound)));
+      leaves = reach;
+      bounds = λ setting same root sized.
+          tree_bounds_are_true setting trees.cover trees.within root sized
+          (subst (λ parts. PlansHaveForms (record { parts = parts; slots = setting.case.slots; begun = setting.case.begun })) (sym same)
+          (forms.forms setting.case.slots setting.case.begun))
+          (reach setting same);
     }

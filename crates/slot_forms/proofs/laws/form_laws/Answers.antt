@@ -1,5 +1,5 @@
-use Rattle.slot_forms.proofs.FormLaws.{root_boxes_are_boxes, plans_have_forms, plain_cases_say_the_same}
-use Rattle.slot_forms.proofs.NormalFormLaws.{plans_have_normal_forms}
+use Rattle.slot_forms.proofs.FormLaws.{root_boxes_are_boxes, plain_cases_say_the_same}
+use Rattle.slot_forms.proofs.NormalFormLaws.{plans_have_forms}
 use Rattle.slot_forms.proofs.laws.form_laws.Goals as goal
 
 pub returns : goal.returns
@@ -12,8 +12,7 @@ returns c =
     let normal = c.normal_order_laws.ensures in
     record {
       boxes = root_boxes_are_boxes parts boxes.roots sound;
-      forms = plans_have_forms parts boxes.idle boxes.runs (plans.ranges parts) sound;
-      same = plain_cases_say_the_same parts;
-      normal = λ slots begun. plans_have_normal_forms parts slots begun boxes.idle boxes.runs (plans.ranges parts) sound words.plans words.meaning words.entries
+      forms = λ slots begun. plans_have_forms parts slots begun boxes.idle boxes.runs (plans.ranges parts) sound words.plans words.meaning words.entries
           normal.forms;
+      same = plain_cases_say_the_same parts;
     }

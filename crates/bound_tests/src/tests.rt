@@ -1,0 +1,5 @@
+mod bounds;
+mod corners;
+mod forms;
+mod rows;
+mod samples;

@@ -1,0 +1,4 @@
+mod cases;
+mod leaves;
+mod samples;
+mod verdicts;

@@ -1,0 +1,7 @@
+//! Tests of the rows that have names: [`tank_rows`], [`slot_rows`] and [`named_rows`].
+//!
+//! Each row and each value of rows was worked out apart from the program.
+#![tactic(auto)]
+
+#[cfg(test)]
+mod tests;

@@ -1,0 +1,12 @@
+mod calls;
+mod checks;
+mod files;
+mod lines;
+mod long_shelf;
+mod makes;
+mod plans;
+mod replays;
+mod runs;
+mod samples;
+mod shows;
+mod sinks;

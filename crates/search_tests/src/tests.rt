@@ -1,0 +1,5 @@
+mod boards;
+mod boxes;
+mod cores;
+mod decks;
+mod pools;

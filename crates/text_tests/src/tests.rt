@@ -1,0 +1,6 @@
+mod altered;
+mod commands;
+mod dossiers;
+mod lines;
+mod plans;
+mod plants;
