@@ -4,6 +4,7 @@ pub mod DualLaws
 pub mod EarnedLaws
 pub mod FactorLaws
 pub mod KeepLaws
+pub mod LeastLaws
 pub mod RoomLaws
 pub mod SingleLaws
 pub mod StoredNumbers

@@ -1,4 +1,5 @@
 pub mod Conditions
 pub mod Dual
 pub mod Improving
+pub mod Laws
 pub mod inside

@@ -1,6 +1,6 @@
 -- The test of blocked prefixes decides them, and no form that is sought lies behind a blocked one.
-use Rattle.std.proofs.Common.{◌≡◌, ℕ, zero, suc, ◌+◌, ◌-◌, ◌<◌, ◌≤◌, ◌↔◌, ◌⊎◌, inl, inr, Bool, true, false, not, eqb, List, [], ◌∷◌, ◌++◌, take, drop, get_or, length, min, Option, Some, None, IsNone, IfSome, ap, ap₂, sym, subst, ◌∙◌, refl, arith}
-use Rattle.std.specs.Prelude.{◌&&◌, ◌==◌, nat_lt, nat_le, IsTrue, IsBitSet, All}
+use Rattle.std.proofs.Common.{◌≡◌, ℕ, zero, suc, ◌+◌, ◌-◌, ◌<◌, ◌≤◌, ◌↔◌, ◌⊎◌, inl, inr, Bool, true, false, not, eqb, List, [], ◌∷◌, ◌++◌, take, drop, get_or, length, Option, Some, None, IsNone, IfSome, ap, ap₂, sym, subst, ◌∙◌, refl, arith}
+use Rattle.std.specs.Prelude.{nat_lt, nat_le, IsTrue, All}
 use Rattle.std.specs.Int.{bit_at}
 use Rattle.std.specs.List.{list_all}
 use Rattle.std.specs.Option.{option_eq}
@@ -11,7 +11,7 @@ use Rattle.std.proofs.lemmas.List.FromFn.{length-map-range_with_len}
 use Rattle.std.proofs.lemmas.List.Elements.{All-head, All-tail, All-nil, All-cons}
 use Rattle.plant_model.specs.declared.parts.Parts.{Parts}
 use Rattle.plant_model.specs.Parts.{op_count_of}
-use Rattle.normal_order.specs.NormalWords.{ops_of, IsNormalWord}
+use Rattle.normal_order.specs.NormalWords.{ops_of}
 use Rattle.number_laws.proofs.BitLaws.{in_or_out, out_from_digit}
 use Rattle.overlap_graph.specs.Independence.{independent_mask_of, independence_of}
 use Rattle.replay_core.specs.declared.timed.Timed.{Timed}
@@ -21,7 +21,7 @@ use Rattle.slot_automaton.proofs.WordLemmas.{empty_is_normal, parts_are_normal, 
 use Rattle.slot_box.specs.declared.slot.Slot.{Slot}
 use Rattle.slot_box.specs.Boxes.{IsBox, IsPoint, fixed_prefix, no_slot, slot_at}
 use Rattle.slot_box.specs.Entries.{Entry, idle, runs, bit_of, LiesIn}
-use Rattle.slot_box.specs.Slots.{IsSlot, IsFixedTo, fixed_of}
+use Rattle.slot_box.specs.Slots.{IsSlot, fixed_of}
 use Rattle.slot_box.proofs.LiveLaws.{IsFixedTo-from_fixed_of}
 use Rattle.slot_box.proofs.OnlyLaws.{bit_of-fixed}
 use Rattle.slot_forms.specs.Cases.{Case, begun_count, plain}
@@ -210,7 +210,7 @@ blocked_has_no_form case box at point is there blocked sought =
 
 -- ---- the prefix, slot by slot
 
-prefix-short : (box : List Slot) → length (fixed_prefix box) ≤ length box
+pub prefix-short : (box : List Slot) → length (fixed_prefix box) ≤ length box
 prefix-short [] = omega arith
 prefix-short (s ∷ box) = by (fixed_of s) refl (prefix-short box)
   where

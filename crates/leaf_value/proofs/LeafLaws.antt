@@ -1,6 +1,6 @@
 -- The value of a lawful leaf reaches the margin of every form in its box that is sought, and the bound of a lawful tree that of every plan of its case.
-use Rattle.std.proofs.Common.{◌≡◌, ℕ, ◌+◌, ◌-◌, ◌<◌, ◌≤◌, inl, inr, Bool, true, false, ℤ, pos, ◌≤ℤ◌, ◌<ℤ◌, Option, Some, None, List, [], ◌∷◌, map, drop, length, is_some, is_none, if◌then◌else◌, int_lt, refl, sym, ap, ◌∙◌, subst, arith}
-use Rattle.std.specs.Prelude.{◌&&◌, ◌==◌, nat_le, slice_get, All}
+use Rattle.std.proofs.Common.{◌≡◌, ℕ, ◌-◌, ◌≤◌, inl, inr, Bool, true, false, ℤ, pos, ◌≤ℤ◌, ◌<ℤ◌, Option, Some, None, List, [], ◌∷◌, map, drop, length, is_some, is_none, if◌then◌else◌, refl, sym, ap, ◌∙◌, subst, arith}
+use Rattle.std.specs.Prelude.{◌&&◌, slice_get}
 use Rattle.std.proofs.lemmas.Bool.{and_parts, cond-true, cases_lt, eq-eqb, le-leb}
 use Rattle.std.proofs.lemmas.Int.{ints}
 use Rattle.std.proofs.lemmas.List.{drop-drop, drop-map}
@@ -15,10 +15,9 @@ use Rattle.plant_model.specs.declared.parts.Parts.{Parts}
 use Rattle.replay_core.specs.declared.broken.Broken.{Broken}
 use Rattle.replay_core.specs.declared.order.Order.TheVariants.{BySlot}
 use Rattle.replay_core.specs.declared.timed.Timed.{Timed}
-use Rattle.replay_core.specs.Legal.{first_broken_in, IsLegalIn}
+use Rattle.replay_core.specs.Legal.{first_broken_in}
 use Rattle.replay_core.specs.Margin.{margin_of}
 use Rattle.slot_automaton.specs.Normal.{IsNormal}
-use Rattle.slot_box.specs.declared.node.Leaf.{Leaf as LeafKind}
 use Rattle.slot_box.specs.declared.node.Leaf.TheVariants.{Dead, Void, Dual, Undone, Point}
 use Rattle.slot_box.specs.declared.node.Node.{Node}
 use Rattle.slot_box.specs.declared.node.Node.TheVariants.{Inner, Leaf}
@@ -30,13 +29,13 @@ use Rattle.slot_box.specs.Boxes.{IsBox, IsPoint, only_point}
 use Rattle.slot_box.specs.Entries.{Entry}
 use Rattle.slot_box.specs.Laws.{OnlyPointsArePoints, LeavesCoverRoots, NodeBoxesStayWithin}
 use Rattle.slot_box.specs.Trees.{IsNodeOf, IsSearchTree, InLeaf}
-use Rattle.slot_forms.specs.Cases.{Begun, Case, IsCasePlan, IsCaseBound, IsCaseInfeasible, begun_count, root_box}
+use Rattle.slot_forms.specs.Cases.{Begun, Case, IsCasePlan, begun_count, root_box}
 use Rattle.slot_forms.specs.Forms.{word_of, is_form, is_lawful_form, starts_late, IsSought, point_value, IsFormOf, PlansHaveForms}
 use Rattle.slot_rows.specs.Objective.{objective_of}
 use Rattle.slot_rows.specs.Ranges.{ranges_of}
 use Rattle.leaf_value.specs.LeafValue.{row_of_term, row_or_none, rows_of, multipliers_of, dual_value_of, are_contradictory, leaf_value_of, IsLawfulTerm, AreLawfulTerms, AreBounding, IsLawfulLeaf, Reaches, LeavesReachForms}
 use Rattle.leaf_value.specs.Settings.{Setting, orders_begun, row_named}
-use Rattle.leaf_value.specs.TreeValue.{IsLawfulNode, AreLawful, IsLeafValue, IsBoundOf, IsTrueBound, TreeBoundsAreTrue}
+use Rattle.leaf_value.specs.TreeValue.{IsLawfulNode, AreLawful, IsLeafValue, TreeBoundsAreTrue}
 use Rattle.leaf_value.proofs.BlockedLaws.{end_is_normal, blocked_has_no_form}
 
 -- ---- the rows of entries

@@ -1,5 +1,5 @@
 -- Boxes in which no form is sought, since the operations to which their first slots are fixed begin none.
-use Rattle.std.specs.Prelude.{◌≡◌, ℕ, ◌+◌, ◌-◌, ◌<◌, ◌≤◌, ◌↔◌, Bool, true, ◌&&◌, ◌==◌, not, nat_lt, nat_le, IsTrue, All, List, [], ◌∷◌, take, drop, length}
+use Rattle.std.specs.Prelude.{ℕ, ◌-◌, ◌<◌, ◌≤◌, ◌↔◌, Bool, true, ◌&&◌, ◌==◌, not, nat_lt, nat_le, IsTrue, All, List, [], ◌∷◌, take, drop, length}
 use Rattle.std.specs.Int.{bit_at}
 use Rattle.std.specs.List.{list_all}
 use Rattle.overlap_graph.specs.Independence.{independence_of}

@@ -3,6 +3,6 @@ mod FigureLaws
 pub mod ValueLaws
 mod OnceLaws
 pub mod TermLaws
-mod OfColumnLaws
+pub mod OfColumnLaws
 pub mod PieceLaws
 mod BuildLaws

@@ -57,6 +57,22 @@ pub fn slow_charge(alloc: Global) -> Result<Plant, AllocError> {
     one_charge().rated(rate, false).plant(alloc)
 }
 
+/// The plant of one charge whose tank holds 2.
+pub fn half_tank(alloc: Global) -> Result<Plant, AllocError> {
+    let sample = one_charge();
+    let charge = sample.charge(alloc)?;
+    plant_of(alloc, sample.parts_of(alloc, 2, 2, charge)?)
+}
+
+/// The plant of one minute whose tank holds one volume unit, and whose crude loses 1 a volume unit.
+pub fn losing_charge(alloc: Global) -> Result<Plant, AllocError> {
+    let sample = one_charge().earning(-1);
+    let mut charge = sample.charge(alloc)?;
+    charge.volume = Pair { lo: 1, hi: 1 };
+    charge.window = Pair { lo: 0, hi: 1 };
+    plant_of(alloc, sample.parts_of(alloc, 1, 1, charge)?)
+}
+
 fn plant_of(alloc: Global, parts: Parts) -> Result<Plant, AllocError> {
     Plant::new(alloc, parts).map_err(|_| AllocError)
 }
@@ -109,15 +125,27 @@ impl OneCharge {
     }
 
     fn parts(self, alloc: Global) -> Result<Parts, AllocError> {
+        let charge = self.charge(alloc)?;
+        self.parts_of(alloc, 2, 4, charge)
+    }
+
+    /// The parts of so many minutes, with so much in the tank at first, and with this charge.
+    fn parts_of(
+        self,
+        alloc: Global,
+        horizon: i64,
+        amount: i64,
+        charge: OperationPart,
+    ) -> Result<Parts, AllocError> {
         Ok(Parts {
-            horizon: 2,
+            horizon,
             properties: Items::new(alloc),
             crudes: Items::from_vec(vec![in alloc; self.crude(alloc)?]?),
             vessels: Items::new(alloc),
             storage: Items::new(alloc),
-            charging: Items::from_vec(vec![in alloc; tank(alloc, "C1", 4)?]?),
+            charging: Items::from_vec(vec![in alloc; tank(alloc, "C1", amount)?]?),
             units: Items::from_vec(vec![in alloc; self.unit(alloc)?]?),
-            operations: Items::from_vec(vec![in alloc; self.charge(alloc)?]?),
+            operations: Items::from_vec(vec![in alloc; charge]?),
         })
     }
 

@@ -1,18 +1,15 @@
 -- Fit rows and objectives can be weighed over the ranges of a box.
-use Rattle.std.proofs.Common.{◌≡◌, ℕ, ◌*◌, ◌^◌, ◌<◌, ◌≤◌, List, length, map, max, get_or, All, ap, sym, ◌∙◌, subst, refl, ℤ, pos, ◌≤ℤ◌, unsigned_abs, arith}
-use Rattle.std.specs.List.{range_with_len}
+use Rattle.std.proofs.Common.{◌≡◌, ℕ, ◌*◌, ◌^◌, ◌<◌, ◌≤◌, List, length, get_or, All, ap, sym, ◌∙◌, subst, ◌≤ℤ◌, unsigned_abs, arith}
 use Rattle.std.proofs.Math.Nat.{mul-le-mul_left}
 use Rattle.std.proofs.lemmas.Int.{ints}
 use Rattle.std.proofs.lemmas.List.Elements.{All-from_get_or}
 use Rattle.std.proofs.lemmas.List.FromFn.{get_or-map-range_with_len, length-map-range_with_len}
-use Rattle.limits.specs.declared.TheConstants.{MOST_SLOTS}
-use Rattle.dual_bound.specs.Conditions.{reach_of, AreSmall, IsSystem, IsObjective}
+use Rattle.dual_bound.specs.Conditions.{reach_of, AreSmall}
 use Rattle.linear_form.specs.declared.column.Column.{Column}
 use Rattle.linear_form.specs.declared.row.RowTerm.{RowTerm}
 use Rattle.linear_form.specs.declared.ranges.Interval.{Interval}
 use Rattle.linear_form.specs.Bounds.{zero_alone, range_of}
 use Rattle.linear_form.specs.Columns.{IsColumn, count_of, number_of, column_at}
-use Rattle.linear_form.specs.Rows.{RowForm}
 use Rattle.linear_form.proofs.ColumnLaws.{number-below, number-back, column-there}
 use Rattle.plant_model.specs.declared.parts.Parts.{Parts}
 use Rattle.plant_model.specs.Sound.{SoundPlant}
@@ -22,10 +19,10 @@ use Rattle.row_forms.specs.Sizes.{part_reach}
 use Rattle.slot_box.specs.declared.slot.Slot.{Slot}
 use Rattle.slot_box.specs.declared.slot.Span.{Span}
 use Rattle.slot_box.specs.Boxes.{IsBox}
-use Rattle.row_forms.specs.Fits.{AreFitTerms, IsFitRow}
+use Rattle.row_forms.specs.Fits.{AreFitTerms}
 use Rattle.slot_rows.specs.Fits.{WeighFitRows, WeighFitTerms}
 use Rattle.slot_rows.specs.Ranges.{interval_of, column_span, ranges_of}
-use Rattle.slot_rows.proofs.SpanLaws.{IsModest, column-modest}
+use Rattle.slot_rows.proofs.SpanLaws.{column-modest}
 
 -- the range of a column
 pub range-at : (parts : Parts) (box : List Slot) (column : Column) → IsColumn (extent_of parts (length box)) column →

@@ -1,10 +1,10 @@
 -- Ranges that are set column by column.
-use Rattle.std.proofs.Common.{◌≡◌, ℕ, ◌+◌, ◌-◌, ◌<◌, ◌≤◌, List, length, inl, inr, get_or, ap, sym, ◌∙◌, subst, refl, arith}
+use Rattle.std.proofs.Common.{◌≡◌, ℕ, ◌+◌, ◌-◌, ◌<◌, ◌≤◌, List, length, inl, inr, get_or, ap, sym, ◌∙◌, subst, arith}
 use Rattle.std.proofs.lemmas.Bool.{cases_eq}
 use Rattle.std.proofs.lemmas.List.FromFn.{fill_by_all}
 use Rattle.linear_form.specs.declared.column.Column.{Column}
 use Rattle.linear_form.specs.declared.column.Part.{Part}
-use Rattle.linear_form.specs.Bounds.{Bounds, zero_alone, range_of, KeepsOthers}
+use Rattle.linear_form.specs.Bounds.{Bounds, zero_alone, KeepsOthers}
 use Rattle.linear_form.specs.Columns.{Extent, HasPart, IsColumn, count_of, number_of, column_at}
 use Rattle.linear_form.proofs.ColumnLaws.{number-same, column-there, column-again}
 use Rattle.plant_model.specs.declared.parts.Parts.{Parts}

@@ -1,10 +1,9 @@
 -- Each row of a name holds, family by family.
-use Rattle.std.proofs.Common.{◌≡◌, ℕ, zero, suc, ◌-◌, ◌<◌, ◌≤◌, Bool, true, false, List, drop, length, get_or, ap, sym, subst, ◌∙◌, refl, arith}
-use Rattle.std.specs.Prelude.{◌&&◌, ◌==◌, nat_lt, nat_le, if◌then◌else◌, Option, None, Some, All}
+use Rattle.std.proofs.Common.{◌≡◌, ℕ, zero, suc, ◌-◌, ◌<◌, ◌≤◌, Bool, true, false, List, drop, length, get_or, subst, refl, arith}
+use Rattle.std.specs.Prelude.{◌==◌, nat_lt, if◌then◌else◌, Option, None, Some, All}
 use Rattle.std.specs.Option.{option_map}
 use Rattle.std.proofs.lemmas.Bool.{and_parts, eqb-true}
 use Rattle.std.proofs.lemmas.Bool.Decides.{nat_tests}
-use Rattle.std.proofs.lemmas.List.Elements.{All-get_or}
 use Rattle.linear_form.specs.Points.{IsMet}
 use Rattle.linear_form.specs.Rows.{RowForm}
 use Rattle.normal_order.specs.NormalWords.{IsNormalWord}
@@ -13,9 +12,7 @@ use Rattle.plant_model.specs.declared.parts.Parts.{Parts}
 use Rattle.plant_model.specs.Parts.{op_count_of}
 use Rattle.plant_model.specs.Relations.{independent_of}
 use Rattle.plant_model.specs.Sound.{SoundPlant}
-use Rattle.replay_core.specs.declared.order.Order.{Order}
 use Rattle.replay_core.specs.declared.timed.Timed.{Timed}
-use Rattle.replay_core.specs.Legal.{IsLegalIn}
 use Rattle.replay_core.specs.Rules.{unloads_later_vessel}
 use Rattle.replay_core.proofs.StepLaws.{CanRun-legal}
 use Rattle.row_forms.specs.declared.piece.Inequality.{Inequality}

@@ -1,5 +1,5 @@
 -- Rows on one slot: choices, volumes, rates and windows.
-use Rattle.std.proofs.Common.{◌≡◌, ℕ, ◌+◌, ◌-◌, ◌*◌, ◌<◌, ◌≤◌, inl, inr, Bool, true, false, List, length, ℤ, pos, neg_ℤ, ◌*ℤ◌, ◌≤ℤ◌, ap, sym, ◌∙◌, refl, subst, arith}
+use Rattle.std.proofs.Common.{◌≡◌, ℕ, ◌+◌, ◌-◌, ◌*◌, ◌<◌, ◌≤◌, inl, inr, List, length, ℤ, pos, neg_ℤ, ◌*ℤ◌, ap, ◌∙◌, subst, arith}
 use Rattle.std.proofs.lemmas.Bool.{cases_lt}
 use Rattle.std.proofs.lemmas.Int.{ints}
 use Rattle.number_laws.proofs.ProductLaws.{negative-product}
@@ -14,11 +14,10 @@ use Rattle.row_forms.specs.declared.piece.Which.TheVariants.{Any, Idle, One}
 use Rattle.row_forms.specs.Sums.{figure_at, piece_sum}
 use Rattle.row_forms.proofs.PieceLaws.{one_slot_is_its_figure}
 use Rattle.word_flows.specs.Runs.{IsRun}
-use Rattle.word_flows.specs.Steps.{MeetsRate}
 use Rattle.word_flows.proofs.RunLaws.{runs_are_in_range}
 use Rattle.word_flows.proofs.StepLaws.{runs_meet_rates}
 use Rattle.slot_rows.specs.Families.{plus, minus, less, in_slot, choice_row, volume_row, rate_row, window_row, idle_row}
-use Rattle.slot_rows.proofs.StandLaws.{Holds, Stands, stands-figure, stands-or, stands-volume, any-one, idle-none, idle-one}
+use Rattle.slot_rows.proofs.StandLaws.{Holds, stands-figure, stands-or, stands-volume, any-one, idle-none, idle-one}
 
 -- a factor below 0 times what a piece comes to
 less-times : (a s : ℕ) → less a *ℤ pos s ≡ neg_ℤ (pos (a * s))

@@ -1,34 +1,31 @@
 -- Rows on two slots: cliques, normal order and the order of vessels.
-use Rattle.std.proofs.Common.{◌≡◌, ℕ, ◌+◌, ◌-◌, ◌*◌, ◌<◌, ◌≤◌, inl, inr, Bool, true, false, List, [], ◌∷◌, ◌++◌, map, length, take, drop, ℤ, pos, ◌≤ℤ◌, ap, ap₂, sym, ◌∙◌, refl, arith}
-use Rattle.std.specs.Prelude.{◌&&◌, nat_lt, IsTrue, IsBitSet, All}
+use Rattle.std.proofs.Common.{◌≡◌, ℕ, ◌+◌, ◌-◌, ◌*◌, ◌<◌, ◌≤◌, inl, inr, true, List, [], ◌∷◌, length, drop, pos, ap, ap₂, sym, ◌∙◌, arith}
+use Rattle.std.specs.Prelude.{nat_lt}
 use Rattle.std.proofs.lemmas.Bool.{and_parts}
 use Rattle.std.proofs.lemmas.Bool.Decides.{nat_tests}
 use Rattle.std.proofs.lemmas.Int.{ints}
-use Rattle.std.proofs.lemmas.List.{take-append-drop, drop_more}
+use Rattle.std.proofs.lemmas.List.{drop_more}
 use Rattle.normal_order.specs.NormalWords.{IsNormalWord, ops_of}
 use Rattle.normal_order.proofs.SeatLaws.{independent_is}
 use Rattle.number_laws.proofs.BitLaws.{set_from_one}
 use Rattle.overlap_graph.specs.Cliques.{IsClique}
-use Rattle.overlap_graph.specs.Independence.{independence_of}
 use Rattle.plant_model.specs.declared.parts.Parts.{Parts}
 use Rattle.plant_model.specs.Parts.{op_count_of, op_of, horizon_of}
-use Rattle.plant_model.specs.Relations.{share_berth, refused_at_once_of, independent_of}
+use Rattle.plant_model.specs.Relations.{share_berth, independent_of}
 use Rattle.plant_model.specs.Sound.{SoundPlant}
 use Rattle.plant_model.proofs.RelationLaws.{independent_of-symmetric}
 use Rattle.replay_core.specs.declared.timed.Timed.{Timed}
 use Rattle.replay_core.specs.Rules.{unloads_later_vessel}
 use Rattle.replay_core.specs.Steps.{no_step, step_at}
-use Rattle.row_forms.specs.declared.piece.Figure.{Figure}
 use Rattle.row_forms.specs.declared.piece.Figure.TheVariants.{Choice, Start, End}
 use Rattle.row_forms.specs.declared.piece.Which.TheVariants.{One, Among}
 use Rattle.row_forms.specs.Sums.{figure_at}
 use Rattle.row_forms.proofs.PieceLaws.{one_slot_is_its_figure}
-use Rattle.slot_automaton.specs.Normal.{IsOutOfOrder}
 use Rattle.word_flows.specs.Runs.{IsRun}
 use Rattle.word_flows.proofs.PairLaws.{runs_wait, vessels_take_turns}
 use Rattle.word_flows.proofs.RunLaws.{runs_are_in_range}
 use Rattle.slot_rows.specs.Families.{plus, minus, clique_row, not_both, normal_row, berth_row}
-use Rattle.slot_rows.proofs.StandLaws.{Holds, Stands, StandsAmong, stands-or, choice-one, among-figure, among-or}
+use Rattle.slot_rows.proofs.StandLaws.{Holds, Stands, stands-or, choice-one, among-figure, among-or}
 
 -- ---- cliques
 

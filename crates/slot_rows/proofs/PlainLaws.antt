@@ -1,5 +1,5 @@
 -- Without rows, the dual value of the objective over a box fits 64 bits.
-use Rattle.std.proofs.Common.{◌≡◌, ℕ, ◌+◌, ◌*◌, ◌^◌, ◌<◌, ◌≤◌, List, [], ◌∷◌, ◌++◌, length, map, get_or, All, sum_by, ℤ, pos, negsuc, ◌≤ℤ◌, neg_ℤ, unsigned_abs, FitsSigned, ap, sym, ◌∙◌, refl, subst, arith}
+use Rattle.std.proofs.Common.{◌≡◌, ℕ, ◌+◌, ◌*◌, ◌^◌, ◌<◌, ◌≤◌, List, [], ◌∷◌, ◌++◌, length, map, get_or, All, sum_by, ℤ, pos, negsuc, ◌≤ℤ◌, neg_ℤ, unsigned_abs, FitsSigned, ap, sym, ◌∙◌, subst, arith}
 use Rattle.std.specs.Int.{w64}
 use Rattle.std.specs.List.{range_with_len}
 use Rattle.std.proofs.Math.Nat.{mul-le-mul_left, mul-le-mul_right}
@@ -7,18 +7,19 @@ use Rattle.std.proofs.lemmas.Int.{ints}
 use Rattle.std.proofs.lemmas.List.Elements.{All-head, All-tail, All-from_get_or}
 use Rattle.std.proofs.lemmas.List.FromFn.{get_or-map-range_with_len, length-map-range_with_len}
 use Rattle.std.proofs.lemmas.List.Sums.{sum_by-append, sum_by-cons}
-use Rattle.dual_bound.specs.Conditions.{reach_of, AreColumns}
-use Rattle.dual_bound.specs.Dual.{factor_of, weighed_factor, weight_of, most_in, range_at, dual_sum, dual_value}
+use Rattle.dual_bound.specs.Conditions.{reach_of}
+use Rattle.dual_bound.specs.Dual.{factor_of, weight_of, most_in, range_at, dual_sum}
+use Rattle.dual_bound.specs.Laws.{against, greatest_loss}
 use Rattle.dual_bound.proofs.EarnedLaws.{most_in-size}
 use Rattle.dual_bound.proofs.FactorLaws.{factor-limit}
 use Rattle.dual_bound.proofs.KeepLaws.{floor-one}
-use Rattle.limits.specs.declared.TheConstants.{MOST_COLUMNS, MOST_CRUDES, MOST_DEMURRAGE, MOST_HORIZON, MOST_MARGIN, MOST_PLACES, MOST_VOLUME}
+use Rattle.limits.specs.declared.TheConstants.{MOST_CRUDES, MOST_DEMURRAGE, MOST_HORIZON, MOST_MARGIN, MOST_PLACES, MOST_VOLUME}
 use Rattle.linear_form.specs.declared.column.Column.{Column}
 use Rattle.linear_form.specs.declared.row.RowTerm.{RowTerm}
 use Rattle.linear_form.specs.Bounds.{range_of}
 use Rattle.linear_form.specs.Columns.{count_of}
 use Rattle.linear_form.specs.Listed.{columns_of}
-use Rattle.number_laws.proofs.SignedSumLaws.{abs-negative, total_below-abs}
+use Rattle.number_laws.proofs.SignedSumLaws.{abs-high, abs-negative, total_below-abs}
 use Rattle.plant_model.specs.declared.parts.Parts.{Parts}
 use Rattle.plant_model.specs.Parts.{crude_count_of, margin_of, place_count_of, place_of}
 use Rattle.plant_model.specs.Sound.{SoundPlant}
@@ -27,10 +28,11 @@ use Rattle.row_forms.specs.Columns.{extent_of}
 use Rattle.row_forms.specs.Laws.{ColumnsAreFew, TermsAreOnce, TermsAreOfColumns}
 use Rattle.row_forms.specs.Pieces.{factor_at}
 use Rattle.row_forms.specs.Sizes.{part_reach, piece_reach}
+use Rattle.row_forms.proofs.OfColumnLaws.{columns-counted}
 use Rattle.row_forms.proofs.TermLaws.{all-terms, factors-reach}
 use Rattle.slot_box.specs.declared.slot.Slot.{Slot}
 use Rattle.slot_box.specs.Boxes.{IsBox}
-use Rattle.slot_rows.specs.Fits.{PlainValuesFit}
+use Rattle.slot_rows.specs.Fits.{LossesFit, PlainValuesFit}
 use Rattle.slot_rows.specs.Objective.{gain_pieces, gain_piece, demurrage_pieces, demurrage_piece, objective_of}
 use Rattle.slot_rows.specs.Ranges.{ranges_of}
 use Rattle.slot_rows.proofs.FitLaws.{column-reach}
@@ -122,6 +124,17 @@ objective-within parts box sound is columns = λ k d within.
         let reach = factors-reach parts column (gain_pieces parts (length box) ++ demurrage_pieces parts) in
         omega (arith, reach, objective-reach parts (length box) sound)
 
+-- what a column earns by the objective's factor or its opposite
+earned-size : (parts : Parts) (box : List Slot) (j : ℕ) (weight : ℤ) → SoundPlant parts → IsBox box → TermsAreOnce parts → TermsAreOfColumns parts →
+    unsigned_abs weight ≡ unsigned_abs (factor_of (ranges_of parts box).extent j (objective_of parts (length box))) →
+    unsigned_abs (most_in (range_at (ranges_of parts box) j) weight) ≤ most_reach
+unfolding objective_of ranges_of
+earned-size parts box j weight sound is once columns same =
+    let bounds = ranges_of parts box in
+    let n = length box in
+    let limit = factor-limit bounds.extent (λ j. reach_of (range_at bounds j)) most_reach (objective_of parts n) (columns n _) (once n _) (objective-within parts box sound is columns) in
+    most_in-size (range_at bounds j) weight most_reach (rw same (limit j))
+
 pub plain_values_fit : (parts : Parts) → SoundPlant parts → ColumnsAreFew parts → TermsAreOnce parts → TermsAreOfColumns parts → PlainValuesFit parts
 unfolding objective_of ranges_of
 plain_values_fit parts sound few once columns box is =
@@ -129,13 +142,29 @@ plain_values_fit parts sound few once columns box is =
     let bounds = ranges_of parts box in
     let objective = objective_of parts n in
     let weight = λ (j : ℕ). weight_of bounds.extent [] objective [] 1 j in
-    let limit = factor-limit bounds.extent (λ j. reach_of (range_at bounds j)) most_reach objective (columns n _) (once n _) (objective-within parts box sound is columns) in
     let earned = total_below-abs (count_of bounds.extent) most_reach (λ j. most_in (range_at bounds j) (weight j))
     (λ j below.
     let same : weight j ≡ factor_of bounds.extent j objective = omega (arith, ints) in
-    most_in-size (range_at bounds j) (weight j) most_reach (rw same (limit j))) in
+    earned-size parts box j (weight j) sound is once columns (ap unsigned_abs same)) in
     let columns_few = few n is.most_slots in
     let sum = dual_sum [] bounds objective [] 1 in
     let whole : unsigned_abs sum ≤ count_of bounds.extent * most_reach = omega (arith, ints, earned) in
     let value = floor-one sum in
     rw value (fits_of sum (omega (arith, whole, columns_few)))
+
+-- likewise of the opposite, more sharply
+pub losses_fit : (parts : Parts) → SoundPlant parts → TermsAreOnce parts → TermsAreOfColumns parts → LossesFit parts
+unfolding objective_of ranges_of
+losses_fit parts sound once columns box is =
+    let n = length box in
+    let bounds = ranges_of parts box in
+    let objective = objective_of parts n in
+    let weight = λ (j : ℕ). weight_of bounds.extent (against objective ∷ []) [] (1 ∷ []) 1 j in
+    let earned = total_below-abs (count_of bounds.extent) most_reach (λ j. most_in (range_at bounds j) (weight j))
+    (λ j below.
+    let same : weight j ≡ neg_ℤ (factor_of bounds.extent j objective) = omega (arith, ints) in
+    earned-size parts box j (weight j) sound is once columns (ap unsigned_abs same ∙ abs-negative (factor_of bounds.extent j objective))) in
+    let counted = columns-counted parts n sound is.most_slots in
+    let loss = greatest_loss bounds objective in
+    let whole : unsigned_abs loss ≤ count_of bounds.extent * most_reach = omega (arith, ints, earned) in
+    abs-high loss (2 ^ 62) (omega (arith, whole, counted))

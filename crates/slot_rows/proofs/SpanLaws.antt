@@ -1,16 +1,16 @@
 -- The numbers that a box leaves the columns: their entries are live or not, and they are small.
-use Rattle.std.proofs.Common.{◌≡◌, ◌≢◌, ℕ, ◌+◌, ◌-◌, ◌^◌, ◌<◌, ◌≤◌, ◌⊎◌, inl, inr, Bool, true, false, List, length, get_or, All, ap, sym, ◌∙◌, subst, refl, rules, arith}
+use Rattle.std.proofs.Common.{◌≡◌, ◌≢◌, ℕ, ◌-◌, ◌^◌, ◌<◌, ◌≤◌, ◌⊎◌, inl, inr, Bool, true, false, List, length, sym, subst, refl, arith}
 use Rattle.std.specs.Prelude.{◌==◌}
 use Rattle.std.specs.Int.{bit_at}
 use Rattle.std.proofs.lemmas.Bool.{cases_eq, cases_Bool, eq-eqb, ne_eqb}
 use Rattle.std.proofs.lemmas.List.Elements.{All-get_or}
-use Rattle.limits.specs.declared.TheConstants.{MOST_OPERATIONS, MOST_HORIZON, MOST_VOLUME}
+use Rattle.limits.specs.declared.TheConstants.{MOST_OPERATIONS}
 use Rattle.linear_form.specs.declared.column.Column.{Column}
 use Rattle.linear_form.specs.declared.column.Part.{Part}
 use Rattle.linear_form.specs.declared.column.Part.TheVariants.{Z, A, S, E, W}
 use Rattle.linear_form.specs.Columns.{Extent, HasPart, HasSlot, IsColumn}
 use Rattle.plant_model.specs.declared.parts.Parts.{Parts}
-use Rattle.plant_model.specs.Parts.{op_count_of, horizon_of}
+use Rattle.plant_model.specs.Parts.{horizon_of}
 use Rattle.plant_model.specs.Sound.{SoundPlant}
 use Rattle.row_forms.specs.Columns.{extent_of}
 use Rattle.number_laws.specs.Sums.{when}

@@ -1,9 +1,7 @@
 -- An operation stands in a slot, or its figures there are 0.
-use Rattle.std.proofs.Common.{◌≡◌, ℕ, ◌+◌, ◌-◌, ◌*◌, ◌<◌, ◌≤◌, ◌⊎◌, inl, inr, Bool, true, false, List, length, sum, ℤ, ◌≤ℤ◌, ap, sym, ◌∙◌, refl, arith}
-use Rattle.std.specs.Prelude.{◌==◌, ◌&&◌, nat_lt}
+use Rattle.std.proofs.Common.{◌≡◌, ℕ, ◌<◌, ◌≤◌, ◌⊎◌, inl, inr, List, length, ◌≤ℤ◌, ◌∙◌, refl, arith}
 use Rattle.std.specs.Int.{bit_at}
 use Rattle.std.proofs.lemmas.Bool.{cases_lt, cases_eq, eq-eqb, ne_eqb, lt-ltb, le-ltb}
-use Rattle.linear_form.specs.declared.column.Part.TheVariants.{Z}
 use Rattle.plant_model.specs.declared.parts.Parts.{Parts}
 use Rattle.plant_model.specs.Parts.{op_count_of}
 use Rattle.plant_model.specs.Sound.{SoundPlant}
@@ -13,7 +11,6 @@ use Rattle.row_forms.specs.declared.piece.Figure.{Figure}
 use Rattle.row_forms.specs.declared.piece.Figure.TheVariants.{Choice, Volume}
 use Rattle.row_forms.specs.declared.piece.Inequality.{Inequality}
 use Rattle.row_forms.specs.declared.piece.Which.TheVariants.{Any, Idle, One, Among}
-use Rattle.row_forms.specs.Pieces.{is_of}
 use Rattle.row_forms.specs.Sums.{figure_of, figure_at, sum_of_pieces}
 use Rattle.row_forms.proofs.PieceLaws.{figures_are_of_operations}
 use Rattle.word_flows.specs.Runs.{IsRun}

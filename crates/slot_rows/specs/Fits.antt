@@ -1,9 +1,10 @@
 -- That fit rows and objectives of a plant can be weighed against each other over the ranges of a box.
-use Rattle.std.specs.Prelude.{ℕ, ◌≤◌, List, [], length, All, FitsSigned}
+use Rattle.std.specs.Prelude.{ℕ, ◌^◌, ◌≤◌, pos, ◌≤ℤ◌, List, [], length, All, FitsSigned}
 use Rattle.std.specs.Int.{w64}
 use Rattle.limits.specs.declared.TheConstants.{MOST_ROWS}
 use Rattle.dual_bound.specs.Conditions.{IsSystem, IsObjective}
 use Rattle.dual_bound.specs.Dual.{dual_value}
+use Rattle.dual_bound.specs.Laws.{greatest_loss}
 use Rattle.linear_form.specs.declared.row.RowTerm.{RowTerm}
 use Rattle.linear_form.specs.Bounds.{Bounds}
 use Rattle.linear_form.specs.Rows.{RowForm}
@@ -28,3 +29,9 @@ abbrev pub PlainValuesFit : Parts → Type 0
 PlainValuesFit parts =
     (box : List Slot) → IsBox box → FitsSigned w64
     (dual_value [] (ranges_of parts box) (objective_of parts (length box)) [] 1)
+
+-- nothing within the ranges of a box brings the plant's objective below -2^62
+abbrev pub LossesFit : Parts → Type 0
+LossesFit parts =
+    (box : List Slot) → IsBox box
+    → greatest_loss (ranges_of parts box) (objective_of parts (length box)) ≤ℤ pos (2 ^ 62)

@@ -1,5 +1,5 @@
 -- That the rows on slots and operations hold.
-use Rattle.std.specs.Prelude.{◌≡◌, ◌≢◌, ℕ, ◌-◌, ◌≤◌, List, drop, length, All, Some}
+use Rattle.std.specs.Prelude.{◌≡◌, ℕ, ◌-◌, List, drop, All, Some}
 use Rattle.linear_form.specs.Points.{IsMet}
 use Rattle.linear_form.specs.Rows.{RowForm}
 use Rattle.normal_order.specs.NormalWords.{IsNormalWord}

@@ -1,4 +1,4 @@
-ghost use Rattle.slot_rows.specs.Fits.{PlainValuesFit};
+ghost use Rattle.slot_rows.specs.Fits.{LossesFit, PlainValuesFit};
 ghost use Rattle.slot_rows.specs.Laws.{SlotRowsHold};
 
 use plant_model::Plant;
@@ -9,6 +9,7 @@ use row_forms::row_form_laws;
 pub fn slot_row_laws(plant: &Plant)
     ensures rows { SlotRowsHold plant.now }
     ensures plain { PlainValuesFit plant.now }
+    ensures losses { LossesFit plant.now }
 {
     plant.sound();
     row_form_laws(plant);

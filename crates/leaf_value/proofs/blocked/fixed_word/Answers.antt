@@ -1,4 +1,4 @@
-use Rattle.std.proofs.Common.{rules, ◌≡◌, ◌+◌, ◌<◌, ◌≤◌, [], ◌∷◌, ◌++◌, All, Some, None, take, arith, sym, subst, ◌∙◌}
+use Rattle.std.proofs.Common.{rules, ◌≡◌, ◌+◌, ◌<◌, ◌≤◌, [], ◌∷◌, All, Some, None, arith, sym, subst, ◌∙◌}
 use Rattle.std.proofs.lemmas.List.Elements.{All-append}
 use Rattle.plant_model.specs.Parts.{op_count_of}
 use Rattle.slot_box.specs.Boxes.{slot_at}

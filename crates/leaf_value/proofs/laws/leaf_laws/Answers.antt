@@ -2,7 +2,6 @@ use Rattle.std.proofs.Common.{◌≡◌, sym, subst}
 use Rattle.named_rows.specs.Laws.{DualValuesBoundMargins, EmptyBoxesHaveNoForm}
 use Rattle.slot_forms.specs.Forms.{PlansHaveForms}
 use Rattle.leaf_value.specs.Settings.{Setting}
-use Rattle.leaf_value.specs.LeafValue.{LeavesReachForms}
 use Rattle.leaf_value.proofs.LeafLaws.{leaves_reach_forms, tree_bounds_are_true}
 use Rattle.leaf_value.proofs.laws.leaf_laws.Goals as goal
 

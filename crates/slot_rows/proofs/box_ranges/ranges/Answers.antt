@@ -1,11 +1,9 @@
-use Rattle.std.proofs.Common.{◌≡◌, ◌≤◌, length, ap, sym, ◌∙◌, subst, arith}
+use Rattle.std.proofs.Common.{◌≡◌, ◌≤◌, length, sym, ◌∙◌, subst, arith}
 use Rattle.linear_form.specs.Bounds.{Bounds}
-use Rattle.linear_form.specs.Columns.{Extent, count_of}
+use Rattle.linear_form.specs.Columns.{Extent}
 use Rattle.plant_model.specs.Parts.{op_count_of}
 use Rattle.row_forms.specs.Columns.{extent_of}
 use Rattle.slot_rows.specs.Fits.{WeighFitRows, WeighFitTerms}
-use Rattle.slot_rows.specs.Ranges.{ranges_of}
-use Rattle.slot_rows.specs.inside.Given.{AreOfBox}
 use Rattle.slot_rows.proofs.FitLaws.{weigh_fit_rows, weigh_fit_terms}
 use Rattle.slot_rows.proofs.GivenLaws.{all-given, given-all}
 use Rattle.slot_rows.proofs.box_ranges.ranges.Goals as goal

@@ -1,8 +1,6 @@
-use Rattle.std.proofs.Common.{ℕ, ◌<◌, length, subst, below_more, arith}
-use Rattle.linear_form.specs.declared.column.Column.{Column}
+use Rattle.std.proofs.Common.{ℕ, length, subst, below_more, arith}
 use Rattle.linear_form.specs.declared.column.Part.TheVariants.{A}
 use Rattle.linear_form.specs.Columns.{IsColumn}
-use Rattle.plant_model.specs.Parts.{crude_count_of}
 use Rattle.linear_form.specs.Listed.{column_of}
 use Rattle.row_forms.specs.Columns.{extent_of}
 use Rattle.slot_rows.specs.inside.Given.{IsGiven}

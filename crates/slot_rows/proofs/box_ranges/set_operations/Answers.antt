@@ -1,4 +1,4 @@
-use Rattle.std.proofs.Common.{ℕ, ◌<◌, below_more, arith}
+use Rattle.std.proofs.Common.{below_more, arith}
 use Rattle.linear_form.specs.Listed.{column_of}
 use Rattle.slot_rows.specs.inside.Given.{IsOperationGiven}
 use Rattle.slot_rows.proofs.GivenLaws.{kept-none, kept-then}

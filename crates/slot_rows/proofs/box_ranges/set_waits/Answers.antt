@@ -1,4 +1,4 @@
-use Rattle.std.proofs.Common.{ℕ, ◌<◌, length, refl, subst, below_more, arith}
+use Rattle.std.proofs.Common.{ℕ, length, refl, subst, below_more, arith}
 use Rattle.linear_form.specs.Columns.{IsColumn}
 use Rattle.linear_form.specs.Listed.{vessel_column}
 use Rattle.row_forms.specs.Columns.{extent_of}

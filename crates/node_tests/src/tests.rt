@@ -1,0 +1,3 @@
+mod asked;
+mod cases;
+mod looks;
