@@ -39,7 +39,7 @@ dead-look parts n task seen at blocked fits = record {
     (λ other. let same = blocked-once parts n task.box at k blocked other in cc),
   );
   examined = record {
-    leaf_for = record { lawful = blocked; in_range = fits; valued = refl; bounded = tt };
+    leaf_for = record { lawful = blocked; in_range = fits; valued = refl; at_one = tt; bounded = tt };
     closed = λ is_open. is_open;
     beaten = inr tt;
   };

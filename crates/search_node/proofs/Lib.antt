@@ -5,6 +5,8 @@ mod EntryLaws
 pub mod EvenLaws
 pub mod FamilyLaws
 pub mod NameLaws
+mod OfferLaws
+mod PartLaws
 mod PointLaws
 pub mod PrefixLaws
 mod ReachLaws

@@ -77,7 +77,7 @@ module _ (parts : Parts) (task : TaskParts) (is : IsTask task) (one : HasOnePoin
 
   closes : (seen : Option ℤ) → ClosesBox setting task seen Point value_found
   closes seen = record {
-    leaf_for = record { lawful = one; in_range = tt; valued = valued; bounded = bounded value_found (sym valued) };
+    leaf_for = record { lawful = one; in_range = tt; valued = valued; at_one = tt; bounded = bounded value_found (sym valued) };
     closed = λ is_open. is_open;
     beaten = inl refl;
   }

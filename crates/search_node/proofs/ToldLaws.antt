@@ -84,6 +84,7 @@ several-points box split shares = (let sum = shares.sum in let left = shares.som
 -- a leaf of entries with their value
 pub record IsOfEntries (setting : Setting) (task : TaskParts) (candidate : Candidate) : Type 0 where
   pub bounding : IsCandidate setting task.box candidate
+  pub not_empty : candidate.is_empty ≡ false
   pub value : IsValueFor setting task candidate.value
 
 pub undone-leaf : (setting : Setting) (task : TaskParts) (candidate : Candidate) → IsOfEntries setting task candidate →
@@ -92,6 +93,7 @@ undone-leaf setting task candidate is = record {
   lawful = is.bounding.bounding;
   in_range = (below-word candidate.q is.bounding.bounding.1, is.bounding.in_range);
   valued = ap Some is.bounding.value;
+  at_one = sym is.bounding.empty ∙ is.not_empty;
   bounded = is.value;
 }
 

@@ -1,13 +1,19 @@
 -- What holds of values over boxes, whatever is tried to find them.
-use Rattle.std.specs.Prelude.{◌≡◌, ℕ, ◌≤◌, ℤ, ◌≤ℤ◌, ◌<ℤ◌, Bool, nat_lt, IsTrue, List, filter, length, Some}
+use Rattle.std.specs.Prelude.{◌≡◌, ℕ, ◌≤◌, ℤ, ◌≤ℤ◌, ◌<ℤ◌, Bool, nat_lt, IsTrue, List, filter, length, Some, unsigned_abs}
+use Rattle.limits.specs.declared.TheConstants.{MOST_OFFER, MOST_SLOTS}
+use Rattle.plan_build.specs.Built.{IsPlanned}
+use Rattle.plant_model.specs.declared.parts.Parts.{Parts}
+use Rattle.replay_core.specs.declared.planned.Planned.{Planned}
+use Rattle.slot_box.specs.declared.split.Split.{Split}
+use Rattle.slot_box.specs.Splits.{IsLawfulSplit, left_of, right_of}
 use Rattle.slot_box.specs.declared.slot.Slot.{Slot}
 use Rattle.slot_box.specs.declared.term.Term.{Term}
 use Rattle.slot_box.specs.Boxes.{IsBox, HasOnePoint, only_point}
 use Rattle.slot_forms.specs.Forms.{point_value}
 use Rattle.leaf_value.specs.Blocked.{IsBlocked}
-use Rattle.leaf_value.specs.LeafValue.{AreBounding, are_contradictory, dual_value_of, multiplier_of}
+use Rattle.leaf_value.specs.LeafValue.{AreBounding, AreLawfulTerms, are_contradictory, dual_value_of, multiplier_of}
 use Rattle.leaf_value.specs.Settings.{Setting}
-use Rattle.search_node.specs.Values.{least_value}
+use Rattle.search_node.specs.Values.{entries_there, least_value}
 
 -- an entry's row is taken at all
 abbrev pub is_taken : Term → Bool
@@ -45,3 +51,20 @@ abbrev pub PointsAreTold : Setting → Type 0
 PointsAreTold setting =
     (box : List Slot) (margin : ℤ) → IsBox box → HasOnePoint box
     → point_value setting.case (only_point box) ≡ Some margin → least_value ≤ℤ margin
+
+-- what a plan of at most so many operations earns may be offered to other workers
+abbrev pub PlansMayBeOffered : Parts → Type 0
+PlansMayBeOffered parts =
+    (n : ℕ) (planned : Planned) → n ≤ MOST_SLOTS → IsPlanned parts n planned → unsigned_abs planned.margin ≤ MOST_OFFER
+
+-- of lawful entries each row is there
+abbrev pub LawfulEntriesAreThere : Setting → Type 0
+LawfulEntriesAreThere setting = (terms : List Term) → AreLawfulTerms setting terms → entries_there setting terms ≡ terms
+
+-- neither part of a lawful split has a greater dual value by the same entries
+abbrev pub PartsAreBelowTheWhole : Setting → Type 0
+PartsAreBelowTheWhole setting =
+    (box : List Slot) (split : Split) (q : ℕ) (terms : List Term) → IsBox box → length box ≡ setting.case.slots
+    → IsLawfulSplit box split → 1 ≤ q
+    → (dual_value_of setting (left_of box split) q terms ≤ℤ dual_value_of setting box q terms)
+    × (dual_value_of setting (right_of box split) q terms ≤ℤ dual_value_of setting box q terms)

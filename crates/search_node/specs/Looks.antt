@@ -1,12 +1,12 @@
 -- What an examination of a task's box answers: how the box is closed, or how it may be divided, and perhaps a plan.
-use Rattle.std.specs.Prelude.{◌≡◌, ◌↔◌, ◌⊎◌, ℕ, ◌≤◌, ℤ, ◌<ℤ◌, List, length, Option, Some, None, IfSome, ⊤}
+use Rattle.std.specs.Prelude.{◌≡◌, ◌↔◌, ◌⊎◌, ℕ, ◌≤◌, ℤ, ◌<ℤ◌, List, length, Option, Some, None, IfSome, false, ⊤}
 use Rattle.number_laws.specs.Missing.{IsAtMost}
 use Rattle.plan_build.specs.Built.{IsPlanned}
 use Rattle.plant_model.specs.declared.parts.Parts.{Parts}
 use Rattle.plant_model.specs.Parts.{greatest_volume_of, horizon_of, op_count_of}
 use Rattle.replay_core.specs.declared.planned.Planned.{Planned}
 use Rattle.slot_box.specs.declared.node.Leaf.{Leaf}
-use Rattle.slot_box.specs.declared.node.Leaf.TheVariants.{Dead, Point}
+use Rattle.slot_box.specs.declared.node.Leaf.TheVariants.{Dead, Void, Dual, Undone, Point}
 use Rattle.slot_box.specs.declared.slot.Slot.{Slot}
 use Rattle.slot_box.specs.declared.split.Split.{Split}
 use Rattle.slot_box.specs.Boxes.{IsWithinRoot, only_point, points_of}
@@ -17,7 +17,7 @@ use Rattle.slot_forms.specs.Forms.{word_of}
 use Rattle.slot_words.specs.ByStart.{IsByStart}
 use Rattle.leaf_value.specs.Blocked.{IsBlocked}
 use Rattle.leaf_value.specs.Budget.{IsOpen}
-use Rattle.leaf_value.specs.LeafValue.{IsLawfulLeaf, leaf_value_of}
+use Rattle.leaf_value.specs.LeafValue.{IsLawfulLeaf, are_contradictory, leaf_value_of}
 use Rattle.leaf_value.specs.Settings.{Setting, plain_setting}
 use Rattle.search_node.specs.declared.looked.Examined.{Examined}
 use Rattle.search_node.specs.declared.looked.Examined.TheVariants.{Closed, Splittable}
@@ -32,12 +32,21 @@ pub record IsTaskOf (parts : Parts) (n : ℕ) (task : TaskParts) : Type 0 where
 
 -- ---- leaves
 
+-- entries that bound a box do not contradict each other there: where they do, the leaf is void
+abbrev pub HasNoContradiction : Setting → List Slot → Leaf → Type 0
+HasNoContradiction setting box (Dead at) = ⊤
+HasNoContradiction setting box (Void terms) = ⊤
+HasNoContradiction setting box (Dual q terms) = are_contradictory setting box terms ≡ false
+HasNoContradiction setting box (Undone q terms) = are_contradictory setting box terms ≡ false
+HasNoContradiction setting box Point = ⊤
+
 -- a leaf for the task's box with this value: it is lawful there, it has the value, and the value is one that the box
 -- may get
 pub record IsLeafFor (setting : Setting) (task : TaskParts) (leaf : Leaf) (value : Option ℤ) : Type 0 where
   pub lawful : IsLawfulLeaf setting task.box leaf
   pub in_range : IsLeafInRange leaf
   pub valued : value ≡ leaf_value_of setting task.box leaf
+  pub at_one : HasNoContradiction setting task.box leaf
   pub bounded : IfSome value (IsValueFor setting task)
 
 -- the leaf is the box's one point

@@ -23,6 +23,7 @@ returns-clause-examined c =
     let beats : Beats found.value c.args.seen = subst (λ (value : ℤ). Beats value c.args.seen) wide (c.beats.ensures.0 c.if-not-beats.false) in
     let entries : IsOfEntries setting task found = record {
       bounding = subst (λ box. IsCandidate setting box found) c.requires.same c.requires.candidate;
+      not_empty = c.if-found.false;
       value = value-for setting task found c.if-found.false c.requires.warm
           (subst (λ box. ReachesPlainGuesses setting box found) c.requires.same c.requires.plain)
           (subst (λ (value : ℤ). least_value ≤ℤ value) told.value told.least);
