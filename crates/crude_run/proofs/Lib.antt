@@ -7,3 +7,7 @@ pub mod SolutionLaws
 pub mod CompleteLaws
 pub mod HiddenLaws
 pub mod MakingLaws
+pub mod HintLaws
+pub mod BuiltLaws
+pub mod TreeLaws
+pub mod SearchLaws

@@ -26,8 +26,9 @@ use Rattle.plan_text.specs.PlanText.{AreOpLines}
 use Rattle.dossier_check.specs.Accepted.{FitsAnswer, IsGivenPlan, IsAccepted}
 use Rattle.dossier_check.specs.Claims.{AcceptedClaimsAreTrue}
 use Rattle.plan_text.specs.Plans.{timed_of, plan_of}
-use Rattle.box_search.specs.declared.search.Found.{Found}
-use Rattle.box_search.specs.Searched.{IsFound, best_margin}
+use Rattle.plan_build.specs.Built.{found_margin}
+use Rattle.crude_run.specs.declared.search.Found.{Found}
+use Rattle.crude_run.specs.Searched.{IsFound}
 use Rattle.crude_run.specs.declared.conclude.Head.{Head}
 use Rattle.crude_run.specs.Concluding.{IsHeadOf}
 use Rattle.crude_run.specs.Solving.{IsSolution}
@@ -59,7 +60,7 @@ module _ (parts : Parts) (n budget : ℕ) (some : 1 ≤ n) (most : n ≤ MOST_SL
 
   module _ (best : Option Planned) (bound : Option ℤ) (found : IsFound parts n budget (found_of best bound)) where
     abbrev margin : Option ℤ
-    margin = best_margin best
+    margin = found_margin best
 
     -- a leaf with a value was left open, or its value does not beat the best margin
     value_cases : (value : ℤ) → IsLeafValue setting tree value → ((t ≡ budget) × (points_of root ≤ budget + 1 → ⊥)) ⊎ IsAtMost (Some value) margin
@@ -114,6 +115,8 @@ module _ (parts : Parts) (n budget : ℕ) (some : 1 ≤ n) (most : n ≤ MOST_SL
     infeasible = (λ is. found.bound, λ none. refl);
     inner = found.inner;
     budget_kept = found.budget_kept;
+    thorough = found.thorough;
+    worked = found.worked;
     bound = λ is less. absurd (let clash : Infeasible ≡ Plan = is in cc);
     none_found = λ is. absurd (let clash : Infeasible ≡ Open3 = is in cc);
     no_worse = λ legal. absurd (found.built legal);
@@ -134,6 +137,8 @@ module _ (parts : Parts) (n budget : ℕ) (some : 1 ≤ n) (most : n ≤ MOST_SL
     infeasible = (λ is. absurd (let clash : Open3 ≡ Infeasible = is in cc), λ none. absurd (none bound found.bound.there));
     inner = found.inner;
     budget_kept = found.budget_kept;
+    thorough = found.thorough;
+    worked = found.worked;
     bound = λ is less. absurd (let clash : Open3 ≡ Plan = is in cc);
     none_found = λ is. elim (value_cases None (Some bound) found bound found.bound.there) [ inl left ↦ left.0 | inr most ↦ absurd most ];
     no_worse = λ legal. absurd (found.built legal);
@@ -193,6 +198,8 @@ module _ (parts : Parts) (n budget : ℕ) (some : 1 ≤ n) (most : n ≤ MOST_SL
       infeasible = (λ is. absurd (let clash : Plan ≡ Infeasible = is in cc), λ none. absurd (some_value none));
       inner = found.inner;
       budget_kept = found.budget_kept;
+      thorough = found.thorough;
+      worked = found.worked;
       bound = λ is less. unspent less;
       none_found = λ is. absurd (let clash : Plan ≡ Open3 = is in cc);
       no_worse = λ legal. (refl, found.built.no_worse legal);

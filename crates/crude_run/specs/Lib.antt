@@ -1,6 +1,9 @@
 pub mod Numbers
 pub mod Texts
+pub mod Thorough
+pub mod Worked
 pub mod Solving
+pub mod Searched
 pub mod Checking
 pub mod Replaying
 pub mod Making

@@ -19,6 +19,8 @@ use Rattle.dossier_text.specs.Text.{dossier_bytes}
 use Rattle.dossier_check.specs.Accepted.{IsAccepted}
 use Rattle.dossier_check.specs.Claims.{claim_of, HasClaim}
 use Rattle.crude_run.specs.declared.answer.Answer.{Answer}
+use Rattle.crude_run.specs.Thorough.{IsThorough}
+use Rattle.crude_run.specs.Worked.{IsWorkedOff}
 use Rattle.crude_run.specs.Numbers.{status_plan_found, status_infeasible, status_none_found}
 
 -- the status that goes with the answer of a dossier
@@ -43,6 +45,10 @@ pub record IsSolution (parts : Parts) (n budget : ℕ) (dossier : Dossier) : Typ
   -- a leaf is left open only where all that the budget allows were divided, and any other has no value above the margin
   -- of the plan, or none at all where there is no plan
   pub budget_kept : KeepsBudget (plain_setting parts n) budget dossier.tree dossier.margin
+  -- each node of its tree was searched thoroughly
+  pub thorough : IsThorough (plain_setting parts n) dossier.tree
+  -- and one worker made the tree, who divided a box only where its value beat the best margin that was seen by then
+  pub worked : IsWorkedOff parts n dossier.nodes dossier.tree dossier.margin
   -- so its bound is the margin unless all were divided
   pub bound : dossier.answer ≡ Plan → dossier.nodes < budget → dossier.bound ≡ dossier.margin
   -- no plan was found only where all were

@@ -5,11 +5,11 @@ ghost use Rattle.plan_text.specs.OpLine.{IsOpLine};
 ghost use Rattle.plant_model.specs.Parts.{op_count_of};
 ghost use Rattle.plan_text.specs.PlanText.{AreOpLines};
 ghost use Rattle.plan_text.specs.Plans.{timed_of, plan_of};
-ghost use Rattle.box_search.specs.Searched.{IsFound};
 ghost use Rattle.crude_run.specs.Concluding.{IsHeadOf};
+ghost use Rattle.crude_run.specs.Searched.{IsFound};
 ghost use Rattle.crude_run.specs.Solving.{IsSolution};
 
-use box_search::Found;
+use crate::search::Found;
 use dossier_check::accepted_claim_laws;
 use dossier_text::{Dossier, Word3};
 use item_lists::{Copies, Items};

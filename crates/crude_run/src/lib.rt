@@ -4,11 +4,12 @@
 //! text into a sink. Its contract is the whole promise of the program. Begin with `specs/Answered.antt`:
 //! `Answered` says how a run ends, `CallsFor` what the words call for, and `Serves` what a command
 //! answers by its files. What `solve` owes of a plant is in `specs/Solving.antt`: an accepted dossier,
-//! what it claims, and that it keeps the budget of inner nodes (`leaf_value`). What `check` owes of a dossier is in
+//! what it claims, and that it keeps the budget of inner nodes (`leaf_value`); how thorough its search was is in
+//! `specs/Thorough.antt`, how its one worker came to the tree in `specs/Worked.antt`. What `check` owes of a dossier is in
 //! `specs/Checking.antt`, what `replay` owes of a plan and `show` of a plant in `specs/Replaying.antt`, what `make` owes
 //! of a number in `specs/Making.antt`. That no fault of the shelf or the sink stays hidden is in `specs/Hidden.antt`.
-//! From there the way leads down to plans, boxes and their values. The search itself is `box_search`; here its finding
-//! becomes a dossier.
+//! From there the way leads down to plans, boxes and their values. The search itself is `branch_worker`, whose notes
+//! `search_gather` makes a tree; `search` puts both together, and `conclude` makes a dossier of it.
 #![tactic(auto)]
 
 mod answer;
@@ -16,9 +17,11 @@ mod calls;
 mod check;
 mod conclude;
 mod files;
+mod first_plan;
 mod make;
 mod opening;
 mod replay;
+mod search;
 mod send;
 mod show;
 mod solve;

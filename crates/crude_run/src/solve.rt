@@ -11,9 +11,9 @@ ghost use Rattle.command_line.specs.declared.command.Command.TheVariants.{Solve}
 use crate::answer::Answer;
 use crate::conclude::conclude;
 use crate::opening::{Stop, open_plant};
+use crate::search::search_alone;
 use crate::send::finish;
 use crate::status::{INFEASIBLE, NONE_FOUND, PLAN_FOUND, Status};
-use box_search::search_boxes;
 use dossier_text::{Word3, write_dossier};
 use item_lists::Copies;
 use outer_edge::{Gate, Shelf, Sink};
@@ -35,7 +35,7 @@ pub fn solve_alone<G: Gate>(
     requires most_nodes { nodes ≤ MOST_NODES }
     ensures { IfOk result (Solves plant.now slots nodes) }
 {
-    let found = search_boxes(alloc, plant, slots, nodes, gate)?;
+    let found = search_alone(alloc, plant, slots, nodes, gate)?;
     let dossier = conclude(alloc, plant, slots, nodes, found)?;
     let text = write_dossier(alloc, &dossier)?;
     Ok(Answer {

@@ -1,6 +1,6 @@
 -- What a built plan is: legal, no longer than asked for, of just the margin that it names, and no worse than the greedy
 -- plan of the hint.
-use Rattle.std.specs.Prelude.{ℕ, ◌≤ℤ◌, Option, Some, None, List}
+use Rattle.std.specs.Prelude.{ℕ, ℤ, ◌≤ℤ◌, Option, Some, None, List, option_map}
 use Rattle.plant_model.specs.declared.parts.Parts.{Parts}
 use Rattle.replay_core.specs.declared.planned.Planned.{Planned}
 use Rattle.replay_core.specs.Claim.{IsPlanOf}
@@ -26,3 +26,7 @@ pub record IsBuiltPlan (parts : Parts) (n : ℕ) (hint : List ℕ) (planned : Pl
 abbrev pub IsBuilt : Parts → ℕ → List ℕ → Option Planned → Type 0
 IsBuilt parts n hint None = IsLegal parts (greedy_of parts n hint) → ⊥
 IsBuilt parts n hint (Some planned) = IsBuiltPlan parts n hint planned
+
+-- the margin of a plan, if one was found
+abbrev pub found_margin : Option Planned → Option ℤ
+found_margin found = option_map (λ (planned : Planned). planned.margin) found

@@ -6,11 +6,13 @@
 //! operations with just its margin, no less than that of the greedy plan where that is legal, and none only where it is
 //! not.
 //!
-//! Begin with `specs/Built`, then `building`.
+//! Begin with `specs/Built`, then `building`; [`better`] chooses between two plans.
 #![tactic(auto)]
 
 mod building;
+mod choosing;
 mod hint;
 
 pub use building::{build, build_within};
+pub use choosing::better;
 pub use hint::{Hint, OpList};

@@ -15,14 +15,14 @@ use Rattle.slot_box.specs.declared.split.SplitKind.{SplitKind}
 use Rattle.slot_box.specs.declared.split.SplitKind.TheVariants.{Ops, Volume, Start, End}
 use Rattle.slot_box.specs.Boxes.{IsBox, no_slot, points_of, slot_at}
 use Rattle.slot_box.specs.Slots.{IsFixedTo, IsSlot, has_zeros, live_of, operations_of, size_of, ways_of}
-use Rattle.slot_box.specs.Splits.{IsMiddle, divides, is_cut_by}
-use Rattle.slot_box.proofs.DivisionLaws.{live_below}
+use Rattle.slot_box.specs.Even.{IsMiddle}
+use Rattle.slot_box.specs.Splits.{divides, is_cut_by}
 use Rattle.slot_box.proofs.EntryLaws.{live_with_zeros, live_without, operations_alone}
 use Rattle.slot_box.proofs.HalfLaws.{live_small}
-use Rattle.slot_box.proofs.LiveLaws.{power_from_ones}
+use Rattle.slot_box.proofs.LiveLaws.{live_below, power_from_ones}
 use Rattle.slot_box.proofs.SplitLaws.{IsLawfulSplit-from_test}
 use Rattle.search_node.specs.declared.splits.Cut.{Cut}
-use Rattle.search_node.specs.Even.{DividesEvenly, HalvesEntries}
+use Rattle.slot_box.specs.Even.{DividesEvenly, HalvesEntries}
 use Rattle.search_node.specs.inside.Splitting.{Follows, HasOneEntry, HasOneTime, HasOneVolume, IsGood, IsPartOf, Runs}
 
 -- ---- one slot more

@@ -9,7 +9,7 @@ use Rattle.std.proofs.lemmas.Nat.{and_assoc, and_le_l, ones-le, pow_below}
 use Rattle.std.proofs.lemmas.Nat.Bits.{and_pow, bit_at-trailing_zeros}
 use Rattle.number_laws.proofs.BitLaws.{and-not, one_from_set, ones_parts, set_from_one}
 use Rattle.slot_box.proofs.LiveLaws.{ones_from_power}
-use Rattle.search_node.specs.Even.{HalvesEntries}
+use Rattle.slot_box.specs.Even.{HalvesEntries}
 use Rattle.search_node.specs.inside.Splitting.{IsPartOf}
 
 -- a set that has some entry is not empty

@@ -20,7 +20,8 @@ use Rattle.leaf_value.specs.Settings.{Setting, plain_setting}
 use Rattle.search_node.specs.declared.looked.Examined.TheVariants.{Closed}
 use Rattle.search_node.specs.Laws.{IsUnblocked, PointsAreBelowDuals, PointsAreTold}
 use Rattle.search_node.specs.Looks.{ClosesBox, GivesPlanOfPoint, IsLook, IsPlanOfPoint}
-use Rattle.search_node.specs.Values.{IsPlainGuess, IsSmallPower, IsValueFor, entries_there, is_there}
+use Rattle.leaf_value.specs.PlainGuesses.{IsPlainGuess, IsSmallPower}
+use Rattle.search_node.specs.Values.{IsValueFor, entries_there, is_there}
 
 -- ---- the entries that a value is compared with are lawful
 

@@ -16,7 +16,7 @@ use Rattle.slot_rows.specs.Fits.{PlainValuesFit}
 use Rattle.leaf_value.specs.LeafValue.{dual_value_of}
 use Rattle.leaf_value.specs.Settings.{Setting, plain_setting}
 use Rattle.search_node.specs.declared.guesses.Candidate.{Candidate}
-use Rattle.search_node.specs.Even.{IsEvenSplit}
+use Rattle.slot_box.specs.Even.{IsEvenSplit}
 use Rattle.search_node.specs.inside.Candidates.{IsCandidate, Reaches}
 use Rattle.search_node.specs.inside.Plain.{ReachesPlainGuesses}
 use Rattle.search_node.specs.Laws.{LowValuesContradict}

@@ -1,6 +1,6 @@
 pub mod Values
-pub mod Even
 pub mod Looks
 pub mod Laws
 pub mod Tables
+pub mod Notes
 pub mod inside

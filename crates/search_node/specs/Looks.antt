@@ -22,7 +22,7 @@ use Rattle.leaf_value.specs.Settings.{Setting, plain_setting}
 use Rattle.search_node.specs.declared.looked.Examined.{Examined}
 use Rattle.search_node.specs.declared.looked.Examined.TheVariants.{Closed, Splittable}
 use Rattle.search_node.specs.declared.looked.Looked.{Looked}
-use Rattle.search_node.specs.Even.{IsEvenSplit}
+use Rattle.slot_box.specs.Even.{IsEvenSplit}
 use Rattle.search_node.specs.Values.{IsValueFor}
 
 -- what may be examined: a box of n slots within the root box of the plant

@@ -10,7 +10,7 @@ use Rattle.slot_rows.specs.Objective.{objective_of}
 use Rattle.leaf_value.specs.Settings.{has_row, plain_setting}
 use Rattle.search_node.specs.declared.block.RowBlock.{RowBlock}
 use Rattle.search_node.specs.declared.table.RowTable.{RowTable}
-use Rattle.search_node.specs.Values.{is_plain_family}
+use Rattle.leaf_value.specs.PlainGuesses.{is_plain_family}
 
 -- no more rows than a leaf may name, each under its name
 pub record IsBlockOf (parts : Parts) (n : ℕ) (block : RowBlock) : Type 0 where

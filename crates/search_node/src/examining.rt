@@ -9,7 +9,7 @@ ghost use Rattle.slot_box.specs.declared.node.Leaf.TheVariants as leaves;
 ghost use Rattle.slot_box.specs.Boxes.{HasOnePoint, points_of};
 ghost use Rattle.slot_box.specs.Splits.{IsLawfulSplit};
 ghost use Rattle.leaf_value.specs.Settings.{plain_setting};
-ghost use Rattle.search_node.specs.Even.{IsEvenSplit};
+ghost use Rattle.slot_box.specs.Even.{IsEvenSplit};
 ghost use Rattle.search_node.specs.Laws.{IsUnblocked};
 ghost use Rattle.search_node.specs.Looks.{Beats, IsExamined, IsLook, IsTaskOf};
 ghost use Rattle.search_node.specs.Tables.{IsBlockOf, IsTableOf};

@@ -2,7 +2,7 @@
 
 ghost use Rattle.std.specs.Prelude.{◌≡◌, ◌+◌, ◌<◌, ◌≤◌, ◌↔◌, IsBitSet, IsTrue, count_ones};
 ghost use Rattle.plant_model.specs.Parts.{op_count_of};
-ghost use Rattle.search_node.specs.Even.{HalvesEntries};
+ghost use Rattle.slot_box.specs.Even.{HalvesEntries};
 ghost use Rattle.search_node.specs.inside.Splitting.{IsPartOf};
 
 use plant_model::{OpKind, Plant};

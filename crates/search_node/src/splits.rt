@@ -10,7 +10,7 @@
 ghost use Rattle.std.specs.Prelude.{◌≡◌, ◌⊎◌, ◌+◌, ◌-◌, ◌/◌, ◌<◌, ◌≤◌, ◌↔◌, length, All, IfSome, MatchOption};
 ghost use Rattle.slot_box.specs.Boxes.{IsBox, points_of, slot_at};
 ghost use Rattle.slot_box.specs.Splits.{IsLawfulSplit};
-ghost use Rattle.search_node.specs.Even.{IsEvenSplit};
+ghost use Rattle.slot_box.specs.Even.{IsEvenSplit};
 ghost use Rattle.search_node.specs.inside.Splitting.{Follows, HasOneEntry, HasOneTime, HasOneVolume, IsGood, MayChoose};
 
 use crate::halves::upper_half;

@@ -1,5 +1,4 @@
-//! Tests of the search and of what its workers share: [`box_search`], [`search_core`], [`search_board`], [`cut_pool`]
-//! and [`task_deck`].
+//! Tests of what the workers of a search share: [`search_core`], [`search_board`], [`cut_pool`] and [`task_deck`].
 //!
 //! Each value, verdict and note was worked out apart from the program.
 #![tactic(auto)]

@@ -1,5 +1,4 @@
 mod boards;
-mod boxes;
 mod cores;
 mod decks;
 mod pools;

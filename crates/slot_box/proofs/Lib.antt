@@ -1,6 +1,5 @@
 pub mod BoxLaws
 pub mod CountLaws
-pub mod DivisionLaws
 pub mod EntryLaws
 pub mod HalfLaws
 pub mod IdLaws

@@ -1,5 +1,5 @@
 -- What the set of the live entries of a slot says.
-use Rattle.std.proofs.Common.{◌≡◌, ℕ, inl, inr, ◌^◌, ◌<◌, false, Some, None, sym, ap, ◌∙◌, subst, arith}
+use Rattle.std.proofs.Common.{◌≡◌, ◌≢◌, ℕ, inl, inr, ◌^◌, ◌<◌, ◌≤◌, false, Some, None, sym, ap, ◌∙◌, subst, arith}
 use Rattle.std.specs.Prelude.{IsBitSet, ◌&&◌, nat_lt}
 use Rattle.std.specs.Int.{bit_at, w64, is_power_of_two, trailing_zeros}
 use Rattle.std.proofs.lemmas.Nat.{pow_below, pow_pos, ones-le}
@@ -114,3 +114,18 @@ live_of-from_IsLive s bit slot live =
                     absurd (omega arith)
               ]
         ]
+
+-- one live entry that is not idle is below the number of idle
+pub live_below : (s : Slot) → IsSlot s → ones (live_of s) ≡ 1 → live_of s ≢ 2 ^ 63 → live_of s < 2 ^ 63
+live_below s slot one other =
+    let small = live_small s slot in
+    let power = power_from_ones (live_of s) small one in
+    elim (cases_lt (trailing_zeros w64 (live_of s)) 63) [
+      | inl less ↦ let below = pow_below _ 63 less in omega (arith, power)
+      | inr more ↦
+          elim (cases_eq (trailing_zeros w64 (live_of s)) 63) [
+            | inl same ↦ absurd (other (power ∙ ap (λ k. 2 ^ k) same))
+            | inr larger ↦ absurd (let large : 64 ≤ trailing_zeros w64 (live_of s) = omega arith in
+                let p : 2 ^ 64 ≤ 2 ^ trailing_zeros w64 (live_of s) = pow-le-pow_right {n = 2} (omega arith) large in omega arith)
+          ]
+    ]

@@ -1,6 +1,7 @@
 pub mod Boxes
 pub mod Counting
 pub mod Entries
+pub mod Even
 pub mod Laws
 pub mod Nodes
 pub mod Ranges

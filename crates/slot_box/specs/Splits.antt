@@ -1,11 +1,11 @@
 -- How a box is divided in two.
-use Rattle.std.specs.Prelude.{◌≡◌, ℕ, ◌+◌, ◌-◌, ◌/◌, ◌<◌, ◌≤◌, Bool, ◌&&◌, nat_lt, nat_le, List, length, take, slice_set, ◌⊎◌, IsBitSet, bit_and, ⊤}
+use Rattle.std.specs.Prelude.{ℕ, ◌-◌, ◌<◌, ◌≤◌, Bool, ◌&&◌, nat_lt, nat_le, List, length, slice_set, ◌⊎◌, IsBitSet, bit_and}
 use Rattle.slot_box.specs.declared.slot.Span.{Span}
 use Rattle.slot_box.specs.declared.slot.Slot.{Slot}
 use Rattle.slot_box.specs.declared.split.SplitKind.{SplitKind}
 use Rattle.slot_box.specs.declared.split.SplitKind.TheVariants.{Ops, Volume, Start, End}
 use Rattle.slot_box.specs.declared.split.Split.{Split}
-use Rattle.slot_box.specs.Boxes.{IsPoint, HasPoint, slot_at, entry_at, points_of}
+use Rattle.slot_box.specs.Boxes.{IsPoint, HasPoint, slot_at, entry_at}
 use Rattle.slot_box.specs.Entries.{Entry, bit_of, volume_of, start_of, end_of}
 use Rattle.slot_box.specs.Slots.{span, operations_of, live_of}
 
@@ -73,22 +73,3 @@ divides s (End x) = is_cut_by s.end x && nat_lt 0 (operations_of s)
 abbrev pub is_lawful : List Slot → Split → Bool
 is_lawful slots split =
     nat_le 1 split.slot && nat_le split.slot (length slots) && divides (slot_at slots split.slot) split.kind
-
--- the interval is cut in its middle
-abbrev pub IsMiddle : Span → ℕ → Type 0
-IsMiddle s x = x ≡ s.lo + (s.hi - s.lo + 1) / 2
-
--- where the kind cuts an interval of the slot, it does so in the middle
-abbrev pub CutsInMiddle : Slot → SplitKind → Type 0
-CutsInMiddle s (Ops set) = ⊤
-CutsInMiddle s (Volume x) = IsMiddle s.volume x
-CutsInMiddle s (Start x) = IsMiddle s.start x
-CutsInMiddle s (End x) = IsMiddle s.end x
-
--- likewise a split of the box
-abbrev pub IsCutInMiddle : List Slot → Split → Type 0
-IsCutInMiddle slots split = CutsInMiddle (slot_at slots split.slot) split.kind
-
--- each slot before the one that is divided can be filled in one way only
-abbrev pub IsAtFirst : List Slot → Split → Type 0
-IsAtFirst slots split = points_of (take (split.slot - 1) slots) ≡ 1

@@ -3,7 +3,6 @@ ghost use Rattle.limits.specs.declared.TheConstants.{MOST_HORIZON, MOST_OPERATIO
 ghost use Rattle.slot_box.specs.Boxes.{points_of};
 ghost use Rattle.slot_box.specs.Slots.{IsSlot, ways_of};
 
-use crate::division::divide_first;
 use crate::split::{divides, left_half, right_half};
 use crate::{IDLE, Slot, Span, Split, SplitFault};
 use std::alloc::{AllocError, Global};
@@ -31,7 +30,7 @@ impl SlotBox {
     ghost use Rattle.slot_box.specs.Boxes.{IsBox, IsPoint, HasPoint, HasOnePoint, IsWithinRoot, StaysWithinRoot, RunsAlways, root_of, slot_at, only_point};
     ghost use Rattle.slot_box.specs.Counting.{IsCountOf};
     ghost use Rattle.slot_box.specs.Slots.{IsLive, IsFixedTo, live_of, fixed_of};
-    ghost use Rattle.slot_box.specs.Splits.{IsLawfulSplit, IsAtFirst, IsCutInMiddle, IsPartition, left_of, right_of, is_lawful};
+    ghost use Rattle.slot_box.specs.Splits.{IsLawfulSplit, IsPartition, left_of, right_of, is_lawful};
 
     /// The box of all that `ops` operations, volumes up to `volume` and minutes up to `horizon` allow
     /// in `n` slots.
@@ -118,22 +117,6 @@ impl SlotBox {
         ensures number { IsCountOf (IsPoint self.now) (points_of self.now) }
     {
         points_in(&self.slots)
-    }
-
-    /// A lawful split of a box with more than one point, at the first slot that can be filled in more than
-    /// one way. An interval is cut in its middle.
-    pub fn division(&self) -> Option<Split>
-        ensures lawful { IfSome result (IsLawfulSplit self.now) }
-        ensures none { (result ≡ None) ↔ HasOnePoint self.now }
-        ensures several { IfSome result (λ _. 2 ≤ points_of self.now) }
-        ensures first { IfSome result (IsAtFirst self.now) }
-        ensures middle { IfSome result (IsCutInMiddle self.now) }
-    {
-        if self.is_point() {
-            None
-        } else {
-            divide_first(&self.slots)
-        }
     }
 
     /// The two parts of the box. A split that is not lawful is refused as such, whatever memory there is.
@@ -274,14 +257,12 @@ mod tests {
         let root = one_charge(rt.alloc())?;
         assert_eq!(rt; root.points(), 46);
         assert!(rt; !root.is_point());
-        assert_eq!(rt; root.division(), Some(at(1, SplitKind::Ops(1))));
         let (left, right) = root.split(rt.alloc(), at(1, SplitKind::Ops(1)))?;
         assert_eq!(rt; left.points(), 45);
         assert_eq!(rt; left.len(), 1);
         assert_eq!(rt; left.fixed_at(1), Some(0));
         assert_eq!(rt; right.points(), 1);
         assert!(rt; right.is_point());
-        assert_eq!(rt; right.division(), None);
         assert_eq!(rt; right.len(), 1);
         assert_eq!(rt; right.live(1), IDLE);
         assert_eq!(rt; right.fixed_at(1), None);

@@ -10,17 +10,16 @@
 //! lawful tree has no more leaves than its box has points. [`box_laws`], [`split_laws`], [`tree_laws`] and
 //! [`node_list_laws`] say so of the definitions alone.
 //!
-//! Begin with `boxes`, after `specs/Slots`, `specs/Entries` and `specs/Boxes`; `split` and
-//! `specs/Splits` have the two parts. `node` and `specs/Trees` have the search tree and which box each of
-//! its nodes has, `specs/Nodes` which lists of nodes are such trees, and `specs/Ranges` which of them a text
-//! can hold; `term` has the entries of leaves, `cut` the quality cuts that such entries name, and `task` what
-//! one worker hands to another.
+//! Begin with `boxes`, after `specs/Slots`, `specs/Entries` and `specs/Boxes`; `split` and `specs/Splits` have the two
+//! parts, and `specs/Even` says which splits are even. `node` and `specs/Trees` have the search tree and which box each
+//! of its nodes has, `specs/Nodes` which lists of nodes are such trees, and `specs/Ranges` which of them a text can
+//! hold; `term` has the entries of leaves, `cut` the quality cuts that such entries name, and `task` what one worker
+//! hands to another.
 #![tactic(auto)]
 
 mod boxes;
 mod crossing;
 mod cut;
-mod division;
 mod laws;
 mod node;
 mod slot;

@@ -1,7 +1,9 @@
 //! What `solve` finds of the sample plants, with one slot.
 
 use super::runs::{Ended, SOUND, assert_claims, outcome};
-use super::samples::{fixed_rate, late_vessel, losing_charge, one_charge};
+use super::samples::{
+    fixed_rate, half_tank, late_vessel, losing_charge, one_charge, slow_charge, two_vessels,
+};
 use crude_run::solve_alone;
 use dossier_check::{Verdict, check};
 use outer_edge::FreeGate;
@@ -42,6 +44,22 @@ fn waits_no_longer_than_it_must(rt: HostRuntime) -> Result<(), Fail> {
     Ok(())
 }
 
+// A search that writes no entries says 12 where there is half a tank, and where half as much flows; and where more would
+// have to flow than there is it finds nothing out.
+#[test]
+fn entries_tell_what_can_flow(rt: HostRuntime) -> Result<(), Fail> {
+    let line = "solve plant --slots 1 --nodes 0 --workers 1";
+    for (plant, status, lines) in [
+        (half_tank(), 0, "\nanswer plan\nmargin 6\nbound 6\n"),
+        (slow_charge(), 0, "\nanswer plan\nmargin 6\nbound 6\n"),
+        (fixed_rate(), 3, "\ncuts 0\nnode 0 void "),
+    ] {
+        let ended = solved(rt.alloc(), line, plant)?;
+        assert_claims(&rt, &ended, status, lines);
+    }
+    Ok(())
+}
+
 #[test]
 fn finds_that_there_is_no_plan(rt: HostRuntime) -> Result<(), Fail> {
     let ended = solved(rt.alloc(), FULL, fixed_rate())?;
@@ -55,6 +73,17 @@ fn writes_what_the_checker_accepts(rt: HostRuntime) -> Result<(), Fail> {
     let alloc = rt.alloc();
     let plant = read_plant(alloc, one_charge().as_bytes())?;
     let answer = solve_alone(alloc, &plant, 1, 45, &FreeGate)?;
+    let verdict = check(alloc, &plant, answer.text.as_slice())?;
+    assert!(rt; matches!(&verdict, Verdict::Yes(_)));
+    Ok(())
+}
+
+#[test]
+fn writes_rows_that_the_checker_accepts(rt: HostRuntime) -> Result<(), Fail> {
+    let alloc = rt.alloc();
+    let plant = read_plant(alloc, two_vessels().as_bytes())?;
+    let answer = solve_alone(alloc, &plant, 8, 200, &FreeGate)?;
+    assert_eq!(rt; answer.status.code(), 0);
     let verdict = check(alloc, &plant, answer.text.as_slice())?;
     assert!(rt; matches!(&verdict, Verdict::Yes(_)));
     Ok(())

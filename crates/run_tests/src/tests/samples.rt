@@ -15,6 +15,14 @@ const ONE_CHARGE: &str =
 const FIXED_RATE: &str =
     r#"{"format":1,"horizon":2,"properties":[],"crudes":[{"name":"A","margin":3,"properties":[]}],"vessels":[],"storage":[],"charging":[{"name":"C1","min":0,"max":10,"amounts":[4],"demand":[0,10000000]}],"units":[{"name":"U","continuous":true,"charges":[0,40]}],"operations":[{"name":"c1","from":"C1","to":"U","rate":[4320,4320],"volume":[1,4],"window":[0,2],"limits":[]}]}"#;
 
+// As `one_charge`, but the tank holds 2.
+const HALF_TANK: &str =
+    r#"{"format":1,"horizon":2,"properties":[],"crudes":[{"name":"A","margin":3,"properties":[]}],"vessels":[],"storage":[],"charging":[{"name":"C1","min":0,"max":10,"amounts":[2],"demand":[0,10000000]}],"units":[{"name":"U","continuous":false,"charges":[0,40]}],"operations":[{"name":"c1","from":"C1","to":"U","rate":[0,2880],"volume":[1,4],"window":[0,2],"limits":[]}]}"#;
+
+// As `one_charge`, but at most one volume unit flows in a minute.
+const SLOW_CHARGE: &str =
+    r#"{"format":1,"horizon":2,"properties":[],"crudes":[{"name":"A","margin":3,"properties":[]}],"vessels":[],"storage":[],"charging":[{"name":"C1","min":0,"max":10,"amounts":[4],"demand":[0,10000000]}],"units":[{"name":"U","continuous":false,"charges":[0,40]}],"operations":[{"name":"c1","from":"C1","to":"U","rate":[0,1440],"volume":[1,4],"window":[0,2],"limits":[]}]}"#;
+
 // As `one_charge`, but the one unit that can be charged loses.
 const LOSING_CHARGE: &str =
     r#"{"format":1,"horizon":1,"properties":[],"crudes":[{"name":"A","margin":-1,"properties":[]}],"vessels":[],"storage":[],"charging":[{"name":"C1","min":0,"max":10,"amounts":[1],"demand":[0,10000000]}],"units":[{"name":"U","continuous":false,"charges":[0,40]}],"operations":[{"name":"c1","from":"C1","to":"U","rate":[0,2880],"volume":[1,1],"window":[0,1],"limits":[]}]}"#;
@@ -75,6 +83,14 @@ pub fn two_inlets_ledger() -> &'static str {
 
 pub fn one_charge() -> &'static str {
     ONE_CHARGE
+}
+
+pub fn half_tank() -> &'static str {
+    HALF_TANK
+}
+
+pub fn slow_charge() -> &'static str {
+    SLOW_CHARGE
 }
 
 pub fn fixed_rate() -> &'static str {

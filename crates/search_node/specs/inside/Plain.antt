@@ -9,7 +9,7 @@ use Rattle.leaf_value.specs.Settings.{Setting}
 use Rattle.search_node.specs.declared.block.RowBlock.{RowBlock}
 use Rattle.search_node.specs.declared.guesses.Candidate.{Candidate}
 use Rattle.search_node.specs.inside.Candidates.{Reaches}
-use Rattle.search_node.specs.Values.{IsPlainGuess}
+use Rattle.leaf_value.specs.PlainGuesses.{IsPlainGuess}
 
 -- what a row gives on its own, by each power of two up to 2 ^ 20, for every row of a block
 abbrev pub ReachesPowers : Setting → List Slot → RowBlock → Candidate → Type 0

@@ -6,7 +6,7 @@ use Rattle.slot_box.specs.Boxes.{slot_at}
 use Rattle.slot_box.specs.Slots.{live_of, operations_of}
 use Rattle.slot_box.specs.Splits.{IsLawfulSplit}
 use Rattle.search_node.specs.declared.splits.Cut.{Cut}
-use Rattle.search_node.specs.Even.{IsEvenSplit}
+use Rattle.slot_box.specs.Even.{IsEvenSplit}
 
 -- each member of the first set is one of the second
 abbrev pub IsPartOf : ℕ → ℕ → Type 0

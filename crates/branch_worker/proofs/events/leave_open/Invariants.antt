@@ -1,0 +1,4 @@
+use Rattle.branch_worker.proofs.events.leave_open.Given as goal
+
+abbrev pub ghost-leave : goal.ghost-leave
+ghost-leave g a = g.start

@@ -1,0 +1,5 @@
+pub mod NoteBoxes
+pub mod NoteOrder
+pub mod Sites
+pub mod Work
+pub mod inside

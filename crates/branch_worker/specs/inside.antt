@@ -1,0 +1,2 @@
+-- What only the steps of a worker keep.
+pub mod Working
