@@ -1,7 +1,7 @@
 //! Multipliers of rows, from a linear program that is solved in fixed point.
 //!
-//! Of rows, ranges and an objective [`multipliers`] makes a guess that names each row by one number, each within
-//! its limit, so that `bound`, `shows_empty` and `improve` of `dual_bound` may be called on it. That is all that is
+//! Of rows, ranges and an objective [`multipliers`] makes a guess that names each row by one number, each within its
+//! limit, and so does [`multipliers_within`] with few pivots, so that `bound`, `shows_empty` and `improve` of `dual_bound` may be called on it. That is all that is
 //! promised: what the guess is worth is measured, and `bound` values it exactly. Where the rows have no point at
 //! all, the guess is meant to show it.
 //!
@@ -27,4 +27,4 @@ mod rounding;
 mod scale;
 mod solving;
 
-pub use rounding::multipliers;
+pub use rounding::{multipliers, multipliers_within};

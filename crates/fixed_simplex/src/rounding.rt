@@ -289,11 +289,27 @@ pub fn multipliers(
     requires columns { count_of ranges.now.extent ≤ SIMPLEX_COLUMNS }
     ensures { IfOk result (λ guess. IsGuess rows.now guess.y guess.q) }
 {
+    multipliers_within(alloc, rows, ranges, objective, SIMPLEX_PIVOTS)
+}
+
+/// The same with at most so many pivots: what it has come to by then serves.
+pub fn multipliers_within(
+    alloc: Global,
+    rows: &RowList,
+    ranges: &Ranges,
+    objective: &Objective,
+    pivots: u32,
+) -> Result<Guess, AllocError>
+    requires system { IsSystem rows.now ranges.now }
+    requires objective { IsObjective ranges.now objective.now }
+    requires columns { count_of ranges.now.extent ≤ SIMPLEX_COLUMNS }
+    ensures { IfOk result (λ guess. IsGuess rows.now guess.y guess.q) }
+{
     let program = program_of(alloc, rows, ranges, objective)?;
-    let mut basis = Basis::new(alloc, &program)?;
-    let mut work = Work::new(alloc, &program)?;
+    let mut basis = Basis::new(alloc, &program, pivots)?;
+    let mut work = Work::new(alloc, &program, pivots)?;
     let mut numbers = vec![in alloc; 0i128; rows.as_slice().len()]?;
-    let stopped = solve(&program, &mut basis, &mut work, SIMPLEX_PIVOTS);
+    let stopped = solve(&program, &mut basis, &mut work, pivots);
     let numbers = numbers.as_mut_slice();
     if let Stopped::Empty(leaving) = stopped {
         share_rows(&program, &basis, leaving, work.slopes.as_slice(), numbers);

@@ -27,12 +27,21 @@ pub(crate) struct Basis {
     pub inverse: Matrix,
 }
 
+/// How many rows can be tight at most: each pivot makes one more tight.
+fn width_of(program: &Program, pivots: u32) -> usize {
+    program
+        .row_count()
+        .min(program.column_count())
+        .min(MOST_ROWS as usize)
+        .min(pivots as usize)
+}
+
 impl Basis {
     /// No row is tight, and each column is at the end that earns more.
-    pub fn new(alloc: Global, program: &Program) -> Result<Basis, AllocError> {
+    pub fn new(alloc: Global, program: &Program, pivots: u32) -> Result<Basis, AllocError> {
         let rows = program.row_count();
         let columns = program.column_count();
-        let width = rows.min(columns).min(MOST_ROWS as usize);
+        let width = width_of(program, pivots);
         let mut at_most = vec![in alloc; false; columns]?;
         for j in 0..columns {
             let gain = at(program.moved_gains.as_slice(), j, 0);
@@ -147,9 +156,9 @@ pub(crate) struct Work {
 }
 
 impl Work {
-    pub fn new(alloc: Global, program: &Program) -> Result<Work, AllocError> {
+    pub fn new(alloc: Global, program: &Program, pivots: u32) -> Result<Work, AllocError> {
         let columns = program.column_count();
-        let width = program.row_count().min(columns).min(MOST_ROWS as usize);
+        let width = width_of(program, pivots);
         Ok(Work {
             prices: vec![in alloc; 0i128; width]?,
             weights: vec![in alloc; 0i128; columns]?,

@@ -33,6 +33,7 @@ use crate::splits::even_split;
 use crate::table::RowTable;
 use crate::warm::{warm_candidate, warm_entries};
 use crate::weighing::Weighing;
+use limits::SIMPLEX_PIVOTS;
 use overlap_graph::Masks;
 use plant_model::Plant;
 use replay_core::Planned;
@@ -42,6 +43,12 @@ use slot_forms::point_value;
 use slot_rows::{ranges, slot_row_laws};
 use std::alloc::{AllocError, Global};
 
+/// The nodes with numbers below this one, the root and its parts, get all pivots that the simplex may take.
+const FULL_NODES: u32 = 3;
+
+/// What the others get for each of their programs: they begin with the entries of their parents.
+const FEW_PIVOTS: u32 = 60;
+
 /// Whether a value beats the best margin that was seen.
 fn beats(value: i128, seen: Option<i64>) -> bool
     ensures { IsTrue result ↔ Beats value seen }
@@ -49,6 +56,15 @@ fn beats(value: i128, seen: Option<i64>) -> bool
     match seen {
         None => true,
         Some(best) => value > i128::from(best),
+    }
+}
+
+/// How many pivots the simplex gets at the node of this number.
+fn pivots_of(id: u32) -> u32 {
+    if id < FULL_NODES {
+        SIMPLEX_PIVOTS
+    } else {
+        FEW_PIVOTS
     }
 }
 
@@ -243,6 +259,7 @@ fn look_at_box(
         table,
         bx,
         ranges: &ranges,
+        pivots: pivots_of(task.id()),
     };
     let found = weigh(alloc, &weighing, task, seen)?;
     let what = settle(&weighing, task, seen, split, found);

@@ -18,6 +18,7 @@ ghost use Rattle.search_node.specs.Tables.{IsBlockOf};
 use crate::block::{RowBlock, copy_row};
 use crate::weighing::Weighing;
 use linear_form::{Ranges, Row, RowTerm};
+use plant_model::Plant;
 use slot_box::RowName;
 use std::alloc::{AllocError, Global};
 
@@ -34,13 +35,23 @@ pub(crate) enum RowClass {
     Rare,
 }
 
-/// The class of a row of forms of so many slots.
-pub(crate) fn class_of(name: RowName, n: u32) -> RowClass {
+/// Whether the operation of this number, if there is one, charges a unit that has to be charged at every minute.
+fn is_steady_charge(plant: &Plant, op: u16) -> bool {
+    if op >= plant.op_count().into() {
+        return false;
+    }
+    plant.sound();
+    plant.place(plant.op(op as u8).to).continuous
+}
+
+/// The class of a row of forms of so many slots. How much flows in a minute binds where every minute counts.
+pub(crate) fn class_of(plant: &Plant, name: RowName, n: u32) -> RowClass {
     match name.family {
         5 | 6 if u32::from(name.b) == n => RowClass::Whole,
         9 | 10 | 11 | 12 => RowClass::Whole,
         2 if name.c == 0 => RowClass::Coarse,
         1 | 7 | 16 => RowClass::Coarse,
+        3 if is_steady_charge(plant, name.b) => RowClass::Coarse,
         2 | 5 | 6 | 13 | 14 | 15 => RowClass::Fine,
         _ => RowClass::Rare,
     }
@@ -132,7 +143,7 @@ fn take_block(
 {
     let n = weighing.bx.len();
     for (place, name) in block.names.as_slice().iter().enumerate() {
-        if class_of(*name, n) == class && first.find(*name).is_none() {
+        if class_of(weighing.plant, *name, n) == class && first.find(*name).is_none() {
             take_at(alloc, weighing, block, place, taken)?;
         }
     }

@@ -17,7 +17,7 @@ use crate::rows_taken::{RowClass, take_rows};
 use crate::together::multipliers_together;
 use crate::weighing::Weighing;
 use dual_bound::Guess;
-use fixed_simplex::multipliers;
+use fixed_simplex::multipliers_within;
 use limits::SIMPLEX_COLUMNS;
 use std::alloc::{AllocError, Global};
 
@@ -37,11 +37,12 @@ fn multipliers_of(alloc: Global, weighing: &Weighing, block: &RowBlock) -> Resul
     if is_wide(weighing) {
         return multipliers_together(alloc, weighing, block);
     }
-    multipliers(
+    multipliers_within(
         alloc,
         &block.rows,
         weighing.ranges,
         &weighing.table.objective,
+        weighing.pivots,
     )
 }
 

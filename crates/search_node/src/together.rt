@@ -36,7 +36,7 @@ fn name_of_one(name: RowName) -> RowName {
 fn row_of_one(alloc: Global, weighing: &Weighing, name: RowName) -> Result<Row, AllocError>
     requires { IsWhole weighing.now }
 {
-    if class_of(name, weighing.bx.len()) != RowClass::Whole {
+    if class_of(weighing.plant, name, weighing.bx.len()) != RowClass::Whole {
         return Row::new(alloc, &[], 0);
     }
     let name = name_of_one(name);

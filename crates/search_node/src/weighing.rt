@@ -13,4 +13,6 @@ pub(crate) struct Weighing<'a> {
     pub bx: &'a SlotBox,
     /// The ranges that the box gives the columns of its forms.
     pub ranges: &'a Ranges,
+    /// After so many pivots the simplex stops.
+    pub pivots: u32,
 }

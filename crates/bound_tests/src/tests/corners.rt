@@ -5,7 +5,7 @@ use super::samples::{
     three_rows, two_rows,
 };
 use dual_bound::{bound, is_objective, is_system, shows_empty};
-use fixed_simplex::multipliers;
+use fixed_simplex::{multipliers, multipliers_within};
 use linear_form::{Objective, RowList};
 use std::alloc::Global;
 use std::process::Abort;
@@ -63,6 +63,20 @@ fn meets_the_optimum_of_two(rt: HostRuntime) -> Result<(), Fail> {
     let gain = earned_by_two(rt.alloc(), 3, 2)?;
     let rows = two_rows(rt.alloc(), [2, 1, 7], [1, 3, 9])?;
     assert_eq!(rt; found(rt.alloc(), &rt, 10, &rows, &gain)?, (11, false));
+    Ok(())
+}
+
+// Without a pivot no row is taken, and both amounts are at most 10.
+#[test]
+fn stops_where_it_is_told(rt: HostRuntime) -> Result<(), Fail> {
+    let ranges = one_operation(rt.alloc(), 10)?;
+    let gain = earned_by_two(rt.alloc(), 3, 2)?;
+    let rows = two_rows(rt.alloc(), [2, 1, 7], [1, 3, 9])?;
+    assert!(rt; is_system(&rows, &ranges));
+    assert!(rt; is_objective(&ranges, &gain));
+    assert!(rt; ranges.ends().len() <= 4000);
+    let guess = multipliers_within(rt.alloc(), &rows, &ranges, &gain, 0)?;
+    assert_eq!(rt; bound(&rows, &ranges, &gain, &guess), 50);
     Ok(())
 }
 

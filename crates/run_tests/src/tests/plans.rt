@@ -47,7 +47,7 @@ fn waits_no_longer_than_it_must(rt: HostRuntime) -> Result<(), Fail> {
 // A search that writes no entries says 12 where there is half a tank, and where half as much flows; and where more would
 // have to flow than there is it finds nothing out.
 #[test]
-fn entries_tell_what_can_flow(rt: HostRuntime) -> Result<(), Fail> {
+fn no_entries_would_not_do(rt: HostRuntime) -> Result<(), Fail> {
     let line = "solve plant --slots 1 --nodes 0 --workers 1";
     for (plant, status, lines) in [
         (half_tank(), 0, "\nanswer plan\nmargin 6\nbound 6\n"),
