@@ -1,6 +1,6 @@
 use Rattle.std.proofs.Common.{◌<◌, All}
 use Rattle.plant_model.specs.Parts.{op_count_of}
-use Rattle.search_node.proofs.building.fixed_operations.Given as goal
+use Rattle.search_node.proofs.building.live_operations.Given as goal
 
 -- the plant has each operation so far
 abbrev pub invariant-loop-i : goal.invariant-loop-i

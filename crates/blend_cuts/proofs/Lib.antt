@@ -1,0 +1,6 @@
+mod DriftLaws
+mod ExcessLaws
+mod ValidLaws
+mod LevelLaws
+mod RowLaws
+mod SizeLaws

@@ -1,0 +1,5 @@
+pub mod Cuts
+pub mod Excess
+pub mod CutRows
+pub mod Laws
+pub mod Proposals
