@@ -3,11 +3,15 @@
 //! There are four kinds: [`OneCharge`], one charging tank, one unit, and the charge between them, where a test takes
 //! [`one_charge`] as it is or says what is to be otherwise; [`two_inlets`], two storage tanks that fill one charging
 //! tank; [`unloading`], vessels that are unloaded, each into a tank of its own; and [`two_vessels`], which blends.
+//! [`blend_drift`] and [`blend_limit`] have a charging tank of two crudes.
 //!
 //! To the crates above this crate promises nothing: no call has a clause, so that the proofs of tests do not
 //! read the numbers, and no crate calls it outside its tests. Parts that are refused are told as want of memory.
 #![tactic(auto)]
 
+mod blends;
+
+pub use blends::{blend_drift, blend_limit};
 use item_lists::{Copies, Items};
 use limits::{MOST_SLOTS, MOST_VOLUME};
 use plant_model::{

@@ -19,7 +19,7 @@ fn row_name([family, a, b, c, d]: [u16; 5]) -> RowName {
 }
 
 /// The row of the name over forms of so many slots, if there is one.
-fn row_of(
+pub(crate) fn row_of(
     alloc: Global,
     plant: &Plant,
     slots: u32,
@@ -46,7 +46,7 @@ fn term_text(alloc: Global, term: RowTerm) -> Result<String, AllocError> {
 }
 
 /// What the sum of the row is at most, and its terms.
-fn row_text(alloc: Global, row: &Row) -> Result<String, AllocError> {
+pub(crate) fn row_text(alloc: Global, row: &Row) -> Result<String, AllocError> {
     let mut text = row.right().to_string(alloc)?;
     for term in row.terms() {
         let term = term_text(alloc, *term)?;
