@@ -1,6 +1,7 @@
 -- A box that is divided.
 use Rattle.std.proofs.Common.{◌≡◌, ℕ, ◌+◌, ◌*◌, ℤ, ◌≤ℤ◌, Option, Some, None, List, [], ◌∷◌, ◌++◌, length, map, ap, refl, sym, ◌∙◌, subst, arith}
-use Rattle.std.proofs.lemmas.List.{append_assoc, length_push, map-append, same_from_push}
+use Rattle.std.specs.Prelude.{◌⊎◌}
+use Rattle.std.proofs.lemmas.List.{length_push, map-append, same_from_push}
 use Rattle.std.proofs.lemmas.List.Elements.{All-push}
 use Rattle.number_laws.specs.Missing.{IsAtMost}
 use Rattle.number_laws.proofs.MissingLaws.{IsAtMost-trans, IsAtMost-refl}
@@ -21,14 +22,16 @@ use Rattle.search_node.specs.Looks.{Beats}
 use Rattle.search_node.specs.Laws.{LawfulEntriesAreThere, PartsAreBelowTheWhole}
 use Rattle.search_node.specs.Values.{warm_value}
 use Rattle.work_chains.specs.Chains.{Outcome, divided, closed, inner_note, tickets_of}
-use Rattle.work_chains.specs.BoxChains.{BoxNote, BoxTask, DividesBox}
+use Rattle.work_chains.specs.BoxChains.{BoxNote, DividesBox}
 use Rattle.work_chains.proofs.ChainLaws.{chains-divide}
 use Rattle.branch_worker.specs.declared.worker.Worker.{Worker}
 use Rattle.search_node.specs.Notes.{NoteOver, box_note}
 use Rattle.branch_worker.specs.NoteBoxes.{IsTrueNote}
-use Rattle.branch_worker.specs.Work.{IsLeftWell, box_task}
-use Rattle.branch_worker.specs.inside.Working.{HasLooked, IsKnownTo, IsUndecided, IsWorking, Start, StartsBelow, note_over, setting_of, SawAtLeast}
+use Rattle.branch_worker.specs.Work.{IsLeftWell}
+use Rattle.branch_worker.specs.inside.Working.{HandsOn, HasLooked, HasSameOwner, IsKnownTo, IsUndecided, IsWorking, Start, StartsBelow, note_over, popped_of, pushed_of, setting_of, SawAtLeast}
 use Rattle.branch_worker.proofs.NoteLaws.{in_turn-push, seen-before, falling-push}
+use Rattle.branch_worker.proofs.TaskLaws.{HasTasks-handed}
+use Rattle.task_deck.specs.declared.ends.Owner.{Owner}
 
 -- ---- the part of a box is worth no more by the same entries
 
@@ -93,8 +96,8 @@ module _ (start : Start) (worker : Worker) (task : TaskParts) (ticket : ℕ) (va
   abbrev right_task : TaskParts
   right_task = task_of (2 * ticket + 2) (right_of task.box split) q terms
 
-  abbrev new_worker : Worker
-  new_worker = record worker { notes = worker.notes ++ new_note ∷ []; waiting = worker.waiting ++ right_task ∷ []; drawn = worker.drawn + 1 }
+  abbrev new_worker : List TaskParts → Option Owner → Worker
+  new_worker waiting owner = record worker { notes = worker.notes ++ new_note ∷ []; waiting = waiting; owner = owner; drawn = worker.drawn + 1 }
 
   abbrev more_over : List NoteOver
   more_over = working.over ++ over_note ∷ []
@@ -105,22 +108,14 @@ module _ (start : Start) (worker : Worker) (task : TaskParts) (ticket : ℕ) (va
   one_ticket : tickets_of (map box_note more_over) ≡ tickets_of (map box_note working.over) ++ ticket ∷ []
   one_ticket = ap (λ (l : List BoxNote). tickets_of l) boxes ∙ tickets-inner (map box_note working.over) task.id ticket task.box split
 
-  ordered : working.taken ++ map box_task (worker.waiting ++ right_task ∷ []) ≡ map box_task start.first ++ (working.kept ++ box_task right_task ∷ [])
-  ordered =
-      ap (λ (l : List BoxTask). working.taken ++ l) (map-append box_task worker.waiting (right_task ∷ []))
-      ∙ sym (append_assoc working.taken (map box_task worker.waiting) (box_task right_task ∷ []))
-      ∙ ap (λ (l : List BoxTask). l ++ box_task right_task ∷ []) working.order
-      ∙ append_assoc (map box_task start.first) working.kept (box_task right_task ∷ [])
-
-  pub IsWorking-divided : IsWorking start new_worker (Some left_task) None
-  IsWorking-divided = record {
+  goes-on : (waiting : List TaskParts) (owner : Option Owner) → HandsOn right_task worker (new_worker waiting owner) →
+      IsWorking start (new_worker waiting owner) (Some left_task) None
+  goes-on waiting owner on = record {
     over = more_over;
-    taken = working.taken;
-    kept = working.kept ++ box_task right_task ∷ [];
     notes = ap (λ (l : List NodeNote). l ++ new_note ∷ []) working.notes ∙ sym (map-append (λ (o : NoteOver). o.note) working.over (over_note ∷ []));
-    chains = rw boxes (chains-divide DividesBox left_of right_of working.taken working.kept (map box_note working.over) task.id task.box ticket split
-        (record { box = is_box; lawful = lawful }) working.chains);
-    order = ordered;
+    tasks = HasTasks-handed start worker (new_worker waiting owner) working.over more_over task left_task right_task working.tasks on refl
+        (rw boxes (chains-divide DividesBox left_of right_of working.tasks.taken working.tasks.handed (map box_note working.over) task.id task.box ticket split
+        (record { box = is_box; lawful = lawful }) working.tasks.chains));
     tickets = working.tickets ∙ sym one_ticket;
     drawn = (let more = length_push (tickets_of (map box_note working.over)) ticket in
         ap (λ (k : ℕ). k + 1) working.drawn ∙ sym more ∙ ap (λ (l : List ℕ). length l) (sym one_ticket));
@@ -141,3 +136,18 @@ module _ (start : Start) (worker : Worker) (task : TaskParts) (ticket : ℕ) (va
     found = working.found;
     cuts = working.cuts;
   }
+
+  -- after the note, and the handing on of the right part
+  pub IsWorking-divided : (noted handed : Worker) → noted ≡ record worker { notes = worker.notes ++ new_note ∷ [] } →
+      handed ≡ record noted { waiting = handed.waiting; owner = handed.owner } → HandsOn right_task noted handed →
+      IsWorking start (record handed { drawn = handed.drawn + 1 }) (Some left_task) None
+  IsWorking-divided noted handed is others on =
+      subst (λ (w : Worker). IsWorking start (record w { drawn = w.drawn + 1 }) (Some left_task) None)
+      (sym (others ∙ ap (λ (w : Worker). record w { waiting = handed.waiting; owner = handed.owner }) is))
+      (goes-on handed.waiting handed.owner (record {
+        owner = subst (λ (w : Worker). HasSameOwner w.owner handed.owner) is on.owner;
+        popped = on.popped ∙ ap (λ (w : Worker). popped_of w.owner) is;
+        went = subst (λ (w : Worker).
+            ((handed.waiting ≡ w.waiting) × (pushed_of handed.owner ≡ pushed_of w.owner ++ right_task ∷ []))
+            ⊎ ((handed.waiting ≡ w.waiting ++ right_task ∷ []) × (pushed_of handed.owner ≡ pushed_of w.owner))) is on.went;
+      }))

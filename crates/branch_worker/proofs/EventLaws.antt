@@ -21,11 +21,17 @@ IsWorking-wiser : (start : Start) (worker : Worker) (hand : Option TaskParts) (h
     IsWorking start (record worker { seat = seat; found = found }) hand held
 IsWorking-wiser start worker hand held seat found working more same tickets looks best = record {
   over = working.over;
-  taken = working.taken;
-  kept = working.kept;
   notes = working.notes;
-  chains = working.chains;
-  order = working.order;
+  tasks = record {
+    taken = working.tasks.taken;
+    handed = working.tasks.handed;
+    kept = working.tasks.kept;
+    chains = working.tasks.chains;
+    came = working.tasks.came;
+    went = working.tasks.went;
+    owner = working.tasks.owner;
+    passes = working.tasks.passes;
+  };
   tickets = tickets ∙ ap (λ (l : List ℕ). tickets_with l held) working.tickets;
   drawn = working.drawn;
   seat = record {

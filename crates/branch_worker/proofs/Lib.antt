@@ -1,7 +1,10 @@
 mod NoteLaws
+mod TaskLaws
 mod WorkLaws
 mod EventLaws
 mod LeafLaws
 mod DivideLaws
 mod StepLaws
-mod AloneLaws
+mod FindLaws
+mod BeginLaws
+mod EndLaws

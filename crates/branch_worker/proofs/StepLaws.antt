@@ -1,57 +1,22 @@
 -- A step of a worker: a look, an examination, and a plan that is offered.
-use Rattle.std.proofs.Common.{◌≡◌, ℕ, ◌+◌, ◌<◌, ℤ, Option, Some, None, List, [], ◌∷◌, ◌++◌, map, ap, refl, sym, ◌∙◌, subst, arith, Ok, Err, Result}
+use Rattle.std.proofs.Common.{◌≡◌, ℕ, ◌+◌, ◌<◌, ℤ, Option, Some, None, ap, refl, sym, ◌∙◌, subst, arith, Ok, Err, Result}
 use Rattle.std.specs.Prelude.{◌↔◌, ◌⊎◌, IfOk}
-use Rattle.std.proofs.lemmas.List.{append_assoc}
 use Rattle.number_laws.specs.Missing.{greater, IsAtMost}
 use Rattle.number_laws.proofs.MissingLaws.{IsGreaterOf-greater}
 use Rattle.plan_build.specs.Built.{found_margin}
 use Rattle.slot_box.specs.declared.node.Leaf.{Leaf as LeafKind}
 use Rattle.slot_box.specs.declared.node.Leaf.TheVariants.{Dead, Point}
 use Rattle.slot_box.specs.declared.split.Split.{Split}
-use Rattle.slot_box.specs.Splits.{left_of, right_of}
 use Rattle.slot_box.specs.Tasks.{TaskParts}
 use Rattle.leaf_value.specs.Blocked.{IsBlocked}
 use Rattle.search_node.specs.declared.looked.Examined.{Examined}
 use Rattle.search_node.specs.declared.looked.Examined.TheVariants.{Closed, Splittable}
 use Rattle.search_node.specs.declared.looked.Looked.{Looked}
 use Rattle.search_node.specs.Looks.{ClosesBox, IsExamined, IsLook, SaysDead}
-use Rattle.search_node.specs.Notes.{box_note}
-use Rattle.work_chains.specs.BoxChains.{DividesBox}
-use Rattle.work_chains.proofs.ChainLaws.{chains-take}
 use Rattle.branch_worker.specs.declared.site.Site.{Site}
 use Rattle.branch_worker.specs.declared.worker.Worker.{Worker}
-use Rattle.branch_worker.specs.Work.{box_task}
 use Rattle.branch_worker.specs.inside.Working.{BeganAt, HasLooked, IsUndecided, IsWorking, Start, setting_of}
 use Rattle.branch_worker.proofs.EventLaws.{HasLooked-looked, HasLooked-offered, IsWorking-looked, IsWorking-offered}
-
--- ---- a task that is taken into the hand
-
-module _ (start : Start) (worker : Worker) (working : IsWorking start worker None None) (task : TaskParts) (rest : List TaskParts)
-    (waiting : worker.waiting ≡ task ∷ rest) where
-  pub IsWorking-taken : IsWorking start (record worker { waiting = rest }) (Some task) None
-  IsWorking-taken = record {
-    over = working.over;
-    taken = working.taken ++ box_task task ∷ [];
-    kept = working.kept;
-    notes = working.notes;
-    chains = chains-take DividesBox left_of right_of working.taken working.kept (map box_note working.over) (box_task task) working.chains;
-    order = append_assoc working.taken (box_task task ∷ []) (map box_task rest)
-        ∙ ap (λ (l : List TaskParts). working.taken ++ map box_task l) (sym waiting)
-        ∙ working.order;
-    tickets = working.tickets;
-    drawn = working.drawn;
-    seat = working.seat;
-    true_notes = working.true_notes;
-    in_turn = working.in_turn;
-    falling = working.falling;
-    goes_on = λ before last is inner. absurd (working.goes_on before last is inner);
-    left = working.left;
-    known = working.known;
-    since = working.since;
-    looks = working.looks;
-    found = working.found;
-    cuts = working.cuts;
-  }
 
 -- the same is less than what more than it is less than
 pub less-then : {T E : Type 0} (r : Result T E) (size : T → ℕ) (a b : ℕ) → IfOk r (λ next. size next ≡ a) → a < b → IfOk r (λ next. size next < b)

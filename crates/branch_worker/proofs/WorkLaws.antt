@@ -54,11 +54,18 @@ module _ (start : Start) (worker : Worker) (task : TaskParts) (leaf : LeafKind) 
   pub IsWorking-left : IsWorking start (record worker { notes = more_notes }) None None
   IsWorking-left = record {
     over = more_over;
-    taken = working.taken;
-    kept = working.kept;
     notes = ap (λ (l : List NodeNote). l ++ new_note ∷ []) working.notes ∙ sym (map-append (λ (o : NoteOver). o.note) working.over (over_note ∷ []));
-    chains = rw boxes (chains-close DividesBox left_of right_of working.taken working.kept (map box_note working.over) task.id task.box working.chains);
-    order = working.order;
+    tasks = record {
+      taken = working.tasks.taken;
+      handed = working.tasks.handed;
+      kept = working.tasks.kept;
+      chains = rw boxes
+          (chains-close DividesBox left_of right_of working.tasks.taken working.tasks.handed (map box_note working.over) task.id task.box working.tasks.chains);
+      came = working.tasks.came;
+      went = working.tasks.went;
+      owner = working.tasks.owner;
+      passes = working.tasks.passes;
+    };
     tickets = working.tickets ∙ sym no_ticket;
     drawn = working.drawn ∙ ap (λ (l : List ℕ). length l) (sym no_ticket);
     seat = working.seat;

@@ -1,9 +1,10 @@
-ghost use Rattle.std.specs.Prelude.{◌≡◌, [], None, IfOk};
+ghost use Rattle.std.specs.Prelude.{◌≡◌, [], None, IfOk, false};
 ghost use Rattle.branch_worker.specs.Sites.{IsFreshSeat, IsSite};
 ghost use Rattle.branch_worker.specs.Work.{IsAloneDone};
 ghost use Rattle.branch_worker.specs.inside.Working.{BeganAt, IsWorking, Start};
 
-use crate::events::{advance, take};
+use crate::events::advance;
+use crate::finding::take;
 use crate::queue::TaskQueue;
 use crate::site::{Alone, AloneDone, Site};
 use crate::worker::Worker;
@@ -16,7 +17,17 @@ use std::alloc::{AllocError, Global};
 
 /// A worker that begins with these tasks.
 fn begin(alloc: Global, seat: Seat, first: Tasks) -> Worker
-    ensures { result ≡ record { seat = seat; waiting = first; notes = []; cuts = []; found = None; drawn = 0 } }
+    ensures { result ≡ record {
+      seat = seat;
+      waiting = first;
+      notes = [];
+      cuts = [];
+      found = None;
+      drawn = 0;
+      owner = None;
+      passes = [];
+      busy = false;
+    } }
 {
     Worker {
         seat,
@@ -25,6 +36,9 @@ fn begin(alloc: Global, seat: Seat, first: Tasks) -> Worker
         cuts: Items::new(alloc),
         found: None,
         drawn: 0,
+        owner: None,
+        passes: Items::new(alloc),
+        busy: false,
     }
 }
 

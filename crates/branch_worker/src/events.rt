@@ -16,10 +16,10 @@ ghost use Rattle.search_node.specs.Laws.{LawfulEntriesAreThere, PartsAreBelowThe
 ghost use Rattle.branch_worker.specs.NoteBoxes.{IsTrueNote};
 ghost use Rattle.branch_worker.specs.Sites.{IsSite};
 ghost use Rattle.branch_worker.specs.Work.{IsLeftOpenOrBeaten};
-ghost use Rattle.branch_worker.specs.inside.Working.{BeganAt, HasLooked, IsBelowWarm, IsUndecided, IsWorking, Start, closed_leaf, note_over, setting_of, work_left};
+ghost use Rattle.branch_worker.specs.inside.Working.{BeganAt, HandsOn, HasLooked, HasSameOwner, IsBelowWarm, IsUndecided, IsWorking, Start, closed_leaf, note_over, popped_of, pushed_of, setting_of, work_left};
 
+use crate::finding::take;
 use crate::site::Site;
-use crate::testing::is_task_of;
 use crate::worker::Worker;
 use item_lists::Items;
 use outer_edge::Gate;
@@ -47,9 +47,10 @@ fn note(
     value: Option<i64>,
     seen: Option<i64>,
 ) -> Result<(), AllocError>
-    ensures { OnOk result (worker.new ≡ record worker.old {
+    ensures note { OnOk result (worker.new ≡ record worker.old {
       notes = worker.old.notes ++ (record { id = id; node = node; value = value; seen = seen }) ∷ [];
     }) }
+    ensures seat { worker.new.seat ≡ worker.old.seat }
 {
     worker
         .notes
@@ -138,6 +139,7 @@ fn leave(
     requires warm { IsBelowWarm (setting_of start) task.now value }
     ensures working { OnOk result (IsWorking start worker.new None None) }
     ensures same { OnOk result (worker.new ≡ record worker.old { notes = worker.new.notes }) }
+    ensures board { worker.new.seat.board ≡ worker.old.seat.board }
 {
     note(worker, task.id(), Node::Leaf(leaf), value, seen)?;
     Ok(())
@@ -160,6 +162,7 @@ fn close(
     requires point { leaf ≡ leaves.Point → IsAtMost value worker.old.seat.offer }
     ensures working { OnOk result (IsWorking start worker.new None None) }
     ensures same { OnOk result (worker.new ≡ record worker.old { notes = worker.new.notes }) }
+    ensures board { worker.new.seat.board ≡ worker.old.seat.board }
 {
     leave(worker, task, leaf, value, seen)
 }
@@ -194,6 +197,7 @@ fn close_beaten(
     requires beaten { IsAtMost (Some value) seen }
     ensures working { OnOk result (IsWorking start worker.new None None) }
     ensures same { OnOk result (worker.new ≡ record worker.old { notes = worker.new.notes }) }
+    ensures board { worker.new.seat.board ≡ worker.old.seat.board }
 {
     leave(worker, task, closed_leaf(leaf), Some(value), seen)
 }
@@ -215,6 +219,7 @@ fn leave_open(
     requires told { (number : ℕ) × (worker.old.seat.told ≡ Some number) }
     ensures working { OnOk result (IsWorking start worker.new None None) }
     ensures same { OnOk result (worker.new ≡ record worker.old { notes = worker.new.notes }) }
+    ensures board { worker.new.seat.board ≡ worker.old.seat.board }
 {
     leave(worker, task, leaf, Some(value), seen)
 }
@@ -247,7 +252,33 @@ fn inner_node(ticket: u32, split: Split) -> Node
     Node::Inner { ticket, split }
 }
 
-/// Divides the box under the ticket: the right part is kept, and the left part goes on, both with the leaf's entries.
+/// Pushes a task to the worker's own deck. Where it has none, or the deck can grow no further, the task comes back.
+fn push(worker: &mut Worker, task: Task) -> Option<Task>
+    ensures others { worker.new ≡ record worker.old { owner = worker.new.owner } }
+    ensures owner { HasSameOwner worker.old.owner worker.new.owner }
+    ensures popped { popped_of worker.new.owner ≡ popped_of worker.old.owner }
+    ensures went { MatchOption result (pushed_of worker.new.owner ≡ pushed_of worker.old.owner ++ task ∷ [])
+        (λ back. (back ≡ task) × (pushed_of worker.new.owner ≡ pushed_of worker.old.owner)) }
+{
+    match &mut worker.owner {
+        Some(owner) => owner.push(task).err(),
+        None => Some(task),
+    }
+}
+
+/// Hands a right part on: to whoever comes first to the worker's deck, or else it is kept.
+fn hand_on(worker: &mut Worker, right: Task) -> Result<(), AllocError>
+    ensures others { worker.new ≡ record worker.old { waiting = worker.new.waiting; owner = worker.new.owner } }
+    ensures on { OnOk result (HandsOn right worker.old worker.new) }
+{
+    if let Some(back) = push(worker, right) {
+        worker.waiting.push(back)?;
+    }
+    Ok(())
+}
+
+/// Divides the box under the ticket: the right part is handed on, and the left part goes on, both with the leaf's
+/// entries.
 fn divide(
     alloc: Global,
     worker: &mut Worker,
@@ -272,7 +303,8 @@ fn divide(
     ensures working { IfOk result (λ left. IsWorking start worker.new (Some left) None) }
     ensures task { IfOk result (IsTaskOf start.parts start.slots) }
     ensures drawn { OnOk result (worker.new.drawn ≡ worker.old.drawn + 1) }
-    ensures waiting { OnOk result (length worker.new.waiting ≡ length worker.old.waiting + 1) }
+    ensures waiting { OnOk result (length worker.new.waiting ≤ length worker.old.waiting + 1) }
+    ensures board { worker.new.seat.board ≡ worker.old.seat.board }
 {
     split_laws();
     let (q, terms) = entries_of(alloc, leaf);
@@ -285,9 +317,7 @@ fn divide(
         Some(value),
         seen,
     )?;
-    worker
-        .waiting
-        .push(Task::new(2 * ticket + 2, right, q, copied))?;
+    hand_on(worker, Task::new(2 * ticket + 2, right, q, copied))?;
     worker.drawn += 1;
     Ok(Task::new(2 * ticket + 1, left, q, terms))
 }
@@ -318,6 +348,7 @@ fn divide_or_leave<G: Gate>(
     ensures task { IfOk result (λ next. IfSome next (IsTaskOf start.parts start.slots)) }
     ensures less { IfOk result (λ next. work_left site.now.board.now.budget worker.new next
         < work_left site.now.board.now.budget worker.old (Some task)) }
+    ensures board { worker.new.seat.board ≡ worker.old.seat.board }
 {
     gate.ticket(number, worker.drawn);
     // the entries of a box give its parts no greater value
@@ -355,6 +386,7 @@ fn close_or_divide<G: Gate>(
     ensures task { IfOk result (λ next. IfSome next (IsTaskOf start.parts start.slots)) }
     ensures less { IfOk result (λ next. work_left site.now.board.now.budget worker.new next
         < work_left site.now.board.now.budget worker.old (Some task)) }
+    ensures board { worker.new.seat.board ≡ worker.old.seat.board }
 {
     if !beats(value, seen) {
         close_beaten(worker, &task, value, leaf, split, seen)?;
@@ -366,7 +398,7 @@ fn close_or_divide<G: Gate>(
 }
 
 /// Examines the box of the task in hand and does what comes of it. The left part is next, where it is divided.
-fn step<G: Gate>(
+pub(crate) fn step<G: Gate>(
     alloc: Global,
     site: &Site<'_>,
     table: &RowTable,
@@ -385,6 +417,7 @@ fn step<G: Gate>(
     ensures task { IfOk result (λ next. IfSome next (IsTaskOf start.parts start.slots)) }
     ensures less { IfOk result (λ next. work_left site.now.board.now.budget worker.new next
         < work_left site.now.board.now.budget worker.old (Some task)) }
+    ensures board { worker.new.seat.board ≡ worker.old.seat.board }
 {
     let seen = look(site, worker);
     let Looked { what, found } = examine_by(
@@ -413,26 +446,6 @@ fn step<G: Gate>(
     }
 }
 
-/// Takes the next task that waits into the hand.
-pub(crate) fn take(site: &Site<'_>, worker: &mut Worker) -> Result<Option<Task>, AllocError>
-    ghost start: { Start }
-    requires began { BeganAt site.now start }
-    requires working { IsWorking start worker.old None None }
-    ensures working { IfOk result (λ next. IsWorking start worker.new next None) }
-    ensures task { IfOk result (λ next. IfSome next (IsTaskOf start.parts start.slots)) }
-    ensures same { (budget : ℕ) → IfOk result (λ next. work_left budget worker.new next
-        ≡ work_left budget worker.old None) }
-    ensures ends { IfOk result (λ next. next ≡ None → worker.new.waiting ≡ []) }
-{
-    let Some(task) = worker.waiting.pop() else {
-        return Ok(None);
-    };
-    if !is_task_of(site.plant, site.n, &task) {
-        return Err(AllocError);
-    }
-    Ok(Some(task))
-}
-
 /// Does what is to be done with the task in hand, and says what is in hand next.
 pub(crate) fn advance<G: Gate>(
     alloc: Global,
@@ -453,6 +466,7 @@ pub(crate) fn advance<G: Gate>(
     ensures task { IfOk result (λ next. IfSome next (IsTaskOf start.parts start.slots)) }
     ensures less { IfOk result (λ next. work_left site.now.board.now.budget worker.new next
         < work_left site.now.board.now.budget worker.old (Some task)) }
+    ensures board { worker.new.seat.board ≡ worker.old.seat.board }
     ensures ends { IfOk result (λ next. next ≡ None → worker.new.waiting ≡ []) }
 {
     match step(alloc, site, table, gate, number, worker, task)? {

@@ -3,6 +3,7 @@ use replay_core::Planned;
 use search_board::Seat;
 use search_node::Notes;
 use slot_box::NamedCuts;
+use task_deck::{DoorPasses, Owner};
 
 /// A worker in the middle of its work.
 #[derive(Drop)]
@@ -16,4 +17,10 @@ pub struct Worker {
     pub found: Option<Planned>,
     /// How many tickets it has used.
     pub drawn: u32,
+    /// Its own deck, to which it pushes right parts, if it works among others.
+    pub owner: Option<Owner>,
+    /// Its passes for the other workers' doors.
+    pub passes: DoorPasses,
+    /// Whether the board counts it as busy.
+    pub busy: bool,
 }

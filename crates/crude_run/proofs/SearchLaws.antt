@@ -1,5 +1,5 @@
 -- What a search by one worker gives, step by step.
-use Rattle.std.proofs.Common.{◌≡◌, ℕ, ℤ, inl, inr, ◌≤◌, false, true, Option, Some, None, List, [], ◌∷◌, ◌++◌, map, get_or, refl, sym, ap, ap₂, ◌∙◌, subst, arith}
+use Rattle.std.proofs.Common.{◌≡◌, ℕ, ℤ, inl, inr, ◌≤◌, false, true, Option, Some, None, List, [], ◌∷◌, ◌++◌, length, map, get_or, refl, sym, ap, ap₂, ◌∙◌, subst, arith}
 use Rattle.std.specs.Prelude.{◌⊎◌, All, Bool, Contains, IfSome, if◌then◌else◌, int_lt}
 use Rattle.std.proofs.lemmas.List.{append-nil}
 use Rattle.std.proofs.lemmas.List.Elements.{All-nil, All-cons, All-head, All-tail, All-push, All-weaker, Contains-append_cases, Contains-append_left, Contains-push}
@@ -13,6 +13,7 @@ use Rattle.plant_model.specs.declared.parts.Parts.{Parts}
 use Rattle.replay_core.specs.declared.planned.Planned.{Planned}
 use Rattle.replay_core.specs.Legal.{IsLegal}
 use Rattle.replay_core.specs.Margin.{margin_of}
+use Rattle.slot_box.specs.declared.cut.CutParams.{CutParams}
 use Rattle.slot_box.specs.declared.cut.NamedCut.{NamedCut}
 use Rattle.slot_box.specs.declared.node.Leaf.{Leaf as LeafKind}
 use Rattle.slot_box.specs.declared.node.Leaf.TheVariants.{Dead, Void, Dual, Undone, Point}
@@ -84,13 +85,14 @@ module _ (notes : List NodeNote) (note : NodeNote) where
 
 -- ---- notes without cuts keep their entries
 
-module _ (setting : Setting) (cuts : List NamedCut) where
+module _ (setting : Setting) (none : setting.cuts ≡ []) (cuts : List NamedCut) where
   terms-kept : (terms : List Term) → AreLawfulTerms setting terms → map (term_numbered 0 cuts) terms ≡ terms
   terms-kept [] lawful = refl
   terms-kept (Row name y ∷ terms) lawful =
       ap (λ (l : List Term). Row name y ∷ l) (terms-kept terms (All-tail (IsLawfulTerm setting) (Row name y) terms lawful))
   terms-kept (Cut cut slot op y ∷ terms) lawful =
-      let none = (All-head (IsLawfulTerm setting) (Cut cut slot op y) terms lawful).2 in absurd (cc)
+      let there = (All-head (IsLawfulTerm setting) (Cut cut slot op y) terms lawful).1 in
+      let few = ap (length {A = CutParams}) none in absurd (omega (arith, there, few))
 
   leaf-numbered : (box : List Slot) (leaf : LeafKind) → IsLawfulLeaf setting box leaf → leaf_numbered 0 cuts leaf ≡ leaf
   leaf-numbered box (Dead at) is = refl
@@ -114,12 +116,12 @@ module _ (setting : Setting) (cuts : List NamedCut) where
 
 -- ---- the notes of one worker are those of a whole tree
 
-pub alone-settled : (setting : Setting) (root : List Slot) (t : ℕ) (cuts : List NamedCut) (notes : List NodeNote) (over : List NoteOver) (kept : List BoxTask)
+pub alone-settled : (setting : Setting) → setting.cuts ≡ [] → (root : List Slot) (t : ℕ) (cuts : List NamedCut) (notes : List NodeNote) (over : List NoteOver) (kept : List BoxTask)
     (tickets : List ℕ) → ChainsSettle → notes ≡ notes_over over → All (IsTrueNote setting) over →
     AreBoxChains ((0, root) ∷ kept) (map box_note over) kept None → tickets ≡ tickets_of (map box_note over) → HasEachBelow t tickets →
     AreSettledOver root t (notes_of (notes ∷ []) (cuts ∷ [])) over
-alone-settled setting root t cuts notes over kept tickets settle are true_notes chains used each = record {
-  notes_are = sym (append-nil (map (note_numbered 0 cuts) notes) ∙ ap (map (note_numbered 0 cuts)) are ∙ notes-numbered setting cuts over true_notes);
+alone-settled setting none root t cuts notes over kept tickets settle are true_notes chains used each = record {
+  notes_are = sym (append-nil (map (note_numbered 0 cuts) notes) ∙ ap (map (note_numbered 0 cuts)) are ∙ notes-numbered setting none cuts over true_notes);
   settled = settle root t ((0, root) ∷ kept) kept (map box_note over) chains takes (subst (HasEachBelow t) used each);
 }
   where
@@ -165,7 +167,7 @@ module _ (parts : Parts) (n budget : ℕ) (me : Alone) (done : AloneDone) (is : 
   chains = subst (λ (tasks : List TaskParts). AreBoxChains (map box_task tasks ++ is.taken.kept) (map box_note is.over) is.taken.kept None) starts is.taken.chains
 
   pub settled : AreSettledOver root t (notes_of (done.notes ∷ []) (done.cuts ∷ [])) is.over
-  settled = alone-settled setting root t done.cuts done.notes is.over is.taken.kept done.seat.tickets settle is.notes is.true_notes chains is.taken.used each
+  settled = alone-settled setting refl root t done.cuts done.notes is.over is.taken.kept done.seat.tickets settle is.work.notes_are is.work.true_notes chains is.taken.used each
 
   pub of-tree : t ≤ MOST_NODES → AreOfTree (notes_of (done.notes ∷ []) (done.cuts ∷ []))
   of-tree few = record { root = root; t = t; over = is.over; few = few; settled = settled }
@@ -186,27 +188,27 @@ module _ (parts : Parts) (n budget : ℕ) (me : Alone) (done : AloneDone) (is : 
   IsFound-alone first best most bound tree built began within few told offered seen is_tree greatest rise either cost is_box = record {
     inner = gathered.inner;
     nodes = gathered.nodes;
-    numbers = numbers setting t tree is.over gathered is.true_notes (omega (arith, within, few));
+    numbers = numbers setting t tree is.over gathered is.work.true_notes (omega (arith, within, few));
     tickets = gathered.tickets;
     parents = gathered.parents;
-    lawful = lawful-tree setting t tree is.over gathered is.true_notes;
-    thorough = thorough setting t tree is.over gathered is.true_notes;
+    lawful = lawful-tree setting t tree is.over gathered is.work.true_notes;
+    thorough = thorough setting t tree is.over gathered is.work.true_notes;
     worked = record {
       over = is.over;
       kept = is.taken.kept;
       chains = chains;
       gathered = gathered;
-      true_notes = is.true_notes;
-      in_turn = subst AreSeenInTurn is.notes is.in_turn;
-      falling = subst ValuesFall is.notes is.falling;
+      true_notes = is.work.true_notes;
+      in_turn = subst AreSeenInTurn is.work.notes_are is.work.in_turn;
+      falling = subst ValuesFall is.work.notes_are is.work.falling;
       earned = earned;
       first = known;
     };
-    bound = bound-is setting t tree is.over gathered is.true_notes bound (subst (λ (l : List NodeNote). IsGreatestNoted l bound) is.notes greatest);
+    bound = bound-is setting t tree is.over gathered is.work.true_notes bound (subst (λ (l : List NodeNote). IsGreatestNoted l bound) is.work.notes_are greatest);
     plan = plan-built parts n (all_operations parts) best better_built;
     built = better_built;
     budget_kept = subst (KeepsBudget setting budget tree) best_is
-        (budget-kept setting t tree is.over gathered is.true_notes budget done.seat most (subst (All (IsLeftWell done.seat)) is.notes is.left) within told at_most
+        (budget-kept setting t tree is.over gathered is.work.true_notes budget done.seat most (subst (All (IsLeftWell done.seat)) is.work.notes_are is.work.left) within told at_most
         is_box cost);
   }
     where
@@ -214,24 +216,24 @@ module _ (parts : Parts) (n budget : ℕ) (me : Alone) (done : AloneDone) (is : 
       gathered = is_tree root t is.over settled
 
       better_built : IsBuilt parts n (all_operations parts) best
-      better_built = built-better parts n (all_operations parts) first done.found best built is.found.plan rise either
+      better_built = built-better parts n (all_operations parts) first done.found best built is.work.best.plan rise either
 
       best_is : most ≡ found_margin best
-      best_is = offered ∙ ap (greater (found_margin first)) is.found.offered ∙ sym rise
+      best_is = offered ∙ ap (greater (found_margin first)) is.work.best.offered ∙ sym rise
 
       earned : All (λ (each : NoteOver). IsAtMost each.note.seen (found_margin best)) is.over
-      earned = all-unmap (λ (note : NodeNote). IsAtMost note.seen (found_margin best)) is.over (subst (All (λ (note : NodeNote). IsAtMost note.seen (found_margin best))) is.notes
+      earned = all-unmap (λ (note : NodeNote). IsAtMost note.seen (found_margin best)) is.over (subst (All (λ (note : NodeNote). IsAtMost note.seen (found_margin best))) is.work.notes_are
           (All-weaker (IsSeenBetween me.seat.seen done.seat.seen) (λ (note : NodeNote). IsAtMost note.seen (found_margin best))
-          (λ note between. subst (IsAtMost note.seen) best_is (IsAtMost-trans note.seen done.seat.seen most between.still seen)) done.notes is.seen))
+          (λ note between. subst (IsAtMost note.seen) best_is (IsAtMost-trans note.seen done.seat.seen most between.still seen)) done.notes is.work.seen))
 
       known : IsLegal parts (greedy_of parts n (all_operations parts)) → All (KnewMargin (greedy_of parts n (all_operations parts)) parts) is.over
       known legal =
           let margin : Option ℤ = Some (margin_of parts (greedy_of parts n (all_operations parts))) in
           let earns = built-earns parts n (all_operations parts) first built legal in
-          all-unmap (λ (note : NodeNote). IsAtMost margin note.seen) is.over (subst (All (λ (note : NodeNote). IsAtMost margin note.seen)) is.notes
+          all-unmap (λ (note : NodeNote). IsAtMost margin note.seen) is.over (subst (All (λ (note : NodeNote). IsAtMost margin note.seen)) is.work.notes_are
           (All-weaker (IsSeenBetween me.seat.seen done.seat.seen) (λ (note : NodeNote). IsAtMost margin note.seen)
           (λ note between. IsAtMost-trans margin me.seat.seen note.seen (IsAtMost-trans margin (found_margin first) me.seat.seen earns began) between.since)
-          done.notes is.seen))
+          done.notes is.work.seen))
 
       at_most : IsAtMost (greater done.seat.offer done.seat.seen) most
       at_most = greater-below done.seat.offer done.seat.seen most

@@ -12,8 +12,8 @@ use plant_model::Plant;
 use replay_core::Planned;
 use std::alloc::{AllocError, Global};
 
-/// How many operations are decoded for it.
-const FIRST_WORK: u32 = 100_000;
+/// How many operations are decoded for it, for each slot.
+const SLOT_WORK: u32 = 40_000;
 
 /// All operations of the plant, in rising number.
 fn every_operation(alloc: Global, plant: &Plant) -> Result<Vec<u8>, AllocError>
@@ -39,5 +39,5 @@ pub(crate) fn first_plan(
     let hint = Hint {
         ops: Copies::from_vec(every_operation(alloc, plant)?),
     };
-    build_within(alloc, plant, slots, &hint, FIRST_WORK)
+    build_within(alloc, plant, slots, &hint, SLOT_WORK.saturating_mul(slots))
 }

@@ -11,6 +11,7 @@ ghost use Rattle.crude_run.specs.Searched.{IsFound, IsGreatestNoted, leaf_value_
 
 use crate::first_plan::first_plan;
 use branch_worker::{Alone, Site, work_alone};
+use cut_pool::CutPool;
 use item_lists::Items;
 use leaf_value::{Scales, greater};
 use outer_edge::Gate;
@@ -122,6 +123,8 @@ pub(crate) fn search_alone<G: Gate>(
     form_laws(plant);
     let scales = Scales::new(alloc, plant, slots)?;
     let first = first_plan(alloc, plant, slots)?;
+    // one that works alone needs neither doors nor others' cuts
+    let (doors, pool) = (Items::new(alloc), CutPool::new(alloc)?);
     let (board, mut seat) = Board::new(alloc, budget)?;
     offer_first(plant, slots, &board, &mut seat, &first);
     // the worker's seat begins with what this one has seen
@@ -132,6 +135,8 @@ pub(crate) fn search_alone<G: Gate>(
         automaton: &scales.automaton,
         n: slots,
         board: &board,
+        doors: &doors,
+        pool: &pool,
     };
     let me = Alone {
         number: 0,

@@ -1,14 +1,16 @@
 -- Nothing stands against the cuts of a dossier exactly where each is lawful.
-use Rattle.std.proofs.Common.{◌≡◌, ℕ, ◌+◌, true, List, [], ◌∷◌, refl}
+use Rattle.std.proofs.Common.{◌≡◌, ℕ, ◌+◌, ◌<◌, true, Some, List, [], ◌∷◌, length, map, get_or, refl, sym, ap, ◌∙◌}
+use Rattle.std.specs.Prelude.{slice_get, option_map}
 use Rattle.std.specs.List.{All}
 use Rattle.std.proofs.lemmas.List.Elements.{All-nil, All-cons, All-head, All-tail}
+use Rattle.std.proofs.lemmas.Option.{slice_get-map, slice_get-get_or}
 use Rattle.item_lists.specs.Faults.{unless, each_from}
 use Rattle.item_lists.proofs.FaultLaws.{nil_of_append, holds_of_nil}
 use Rattle.plant_model.specs.declared.parts.Parts.{Parts}
 use Rattle.dossier_text.specs.declared.dossier.CutLine.{CutLine}
 use Rattle.dossier_text.specs.declared.dossier.Dossier.{Dossier}
 use Rattle.dossier_check.specs.declared.verdict.Reason.{Reason}
-use Rattle.dossier_check.specs.Frames.{is_lawful_cut}
+use Rattle.dossier_check.specs.Frames.{cut_of, is_lawful_cut}
 use Rattle.dossier_check.specs.NodeReasons.{reason}
 use Rattle.dossier_check.specs.Reasons.{cut_reasons, first_cut_line}
 use Rattle.dossier_check.proofs.PassLaws.{nil_of_holds, joined_nil}
@@ -42,3 +44,9 @@ module _ (parts : Parts) where
   pub none_of_cuts : (dossier : Dossier) → All (IsCut parts) dossier.cuts → cut_reasons parts dossier ≡ []
   unfolding cut_reasons
   none_of_cuts dossier are = none_of_lawful (first_cut_line dossier) dossier.cuts are
+
+-- the cut of a number that there is
+pub cut_there : (lines : List CutLine) (i : ℕ) (line : CutLine) → i < length lines → line ≡ get_or lines i line →
+    slice_get (map cut_of lines) i ≡ Some (cut_of line)
+cut_there lines i line within is =
+    slice_get-map cut_of lines i ∙ ap (option_map cut_of) (slice_get-get_or lines i line within) ∙ ap (λ l. Some (cut_of l)) (sym is)

@@ -5,6 +5,7 @@ pub mod MeetLaws
 pub mod PlaceLaws
 pub mod PassLaws
 pub mod CutLaws
+pub mod PadLaws
 pub mod StandLaws
 pub mod GreatestLaws
 pub mod ReasonLaws

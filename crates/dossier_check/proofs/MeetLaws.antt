@@ -1,24 +1,20 @@
 -- One node is met.
 use Rattle.std.proofs.Common.{◌≡◌, ℕ, inl, inr, ◌+◌, ◌<◌, Bool, false, ℤ, Option, Some, None, Err, List, [], length, get_or, sym, ap, ◌∙◌, subst}
 use Rattle.std.specs.Prelude.{nat_lt, not, ◌&&◌}
-use Rattle.std.proofs.lemmas.Bool.{cases_lt, le-ltb, and_left, eqb-true}
+use Rattle.std.proofs.lemmas.Bool.{cases_lt, le-ltb, and_left}
 use Rattle.item_lists.specs.Faults.{first_of, unless}
-use Rattle.item_lists.proofs.FaultLaws.{first_of-front, first_of-back, nil_of_none, holds_of_nil}
-use Rattle.slot_box.specs.declared.node.Leaf.{Leaf as LeafKind}
-use Rattle.slot_box.specs.declared.node.Leaf.TheVariants.{Point}
+use Rattle.item_lists.proofs.FaultLaws.{first_of-front, first_of-back}
 use Rattle.slot_box.specs.declared.node.Node.{Node}
 use Rattle.slot_box.specs.declared.node.Node.TheVariants.{Inner}
 use Rattle.slot_box.specs.declared.slot.Slot.{Slot}
 use Rattle.slot_box.specs.declared.split.Split.{Split}
-use Rattle.slot_box.specs.Boxes.{points_of}
 use Rattle.slot_box.specs.Splits.{is_lawful}
-use Rattle.leaf_value.specs.Settings.{Setting}
 use Rattle.dossier_check.specs.declared.met.Met.{Met}
 use Rattle.dossier_check.specs.declared.verdict.Reason.{Reason}
 use Rattle.dossier_check.specs.declared.verdict.Refusal.{Refusal}
 use Rattle.dossier_check.specs.declared.verdict.Refusal.TheVariants.{First, Memory}
 use Rattle.dossier_check.specs.Earlier.{Holder, is_held, box_of, with_node}
-use Rattle.dossier_check.specs.NodeReasons.{reason, leaf_reasons, inner_reasons, node_reasons, nodes_reasons, node_value}
+use Rattle.dossier_check.specs.NodeReasons.{reason, inner_reasons, node_reasons, nodes_reasons, node_value}
 use Rattle.dossier_check.specs.inside.Tests.{Tests}
 use Rattle.dossier_check.specs.inside.Walks.{Keeps, KeepsWith, MeetsInner, Pass, reasons_at, IsMet, Meets}
 use Rattle.dossier_check.proofs.WalkLaws.{IsWalked, walked_stop}

@@ -1,19 +1,17 @@
 -- The test of a leaf whose entries are to show that its box has no form.
-use Rattle.std.proofs.Common.{◌≡◌, ℕ, Bool, true, false, ℤ, pos, ◌<ℤ◌, int_lt, Some, None, List, ◌++◌, arith, sym, ap, ◌∙◌}
+use Rattle.std.proofs.Common.{◌≡◌, ℕ, Bool, ℤ, pos, ◌<ℤ◌, int_lt, None, List, ◌++◌, arith, sym, ap, ◌∙◌}
 use Rattle.std.specs.Prelude.{◌↔◌, IsTrue}
 use Rattle.std.proofs.lemmas.Int.{ints}
 use Rattle.std.proofs.lemmas.Bool.Decides.{same_from_decides}
 use Rattle.dual_bound.specs.Dual.{emptiness_sum}
 use Rattle.item_lists.specs.Faults.{first_of, unless}
 use Rattle.item_lists.proofs.FaultLaws.{first_of-back}
-use Rattle.plant_model.specs.declared.parts.Parts.{Parts}
 use Rattle.slot_box.specs.declared.slot.Slot.{Slot}
 use Rattle.slot_box.specs.declared.term.Term.{Term}
 use Rattle.slot_rows.specs.Ranges.{ranges_of}
 use Rattle.leaf_value.specs.LeafValue.{rows_of, are_contradictory}
 use Rattle.leaf_value.specs.Settings.{Setting}
 use Rattle.dossier_check.specs.declared.entries.Entries.{Entries}
-use Rattle.dossier_check.specs.declared.verdict.Reason.{Reason}
 use Rattle.dossier_check.specs.NodeReasons.{reason, terms_reasons}
 use Rattle.dossier_check.specs.inside.Entering.{AreEntriesOf}
 

@@ -35,7 +35,7 @@ slot_reasons dossier = unless (nat_le 1 dossier.slots && nat_le dossier.slots MO
 abbrev pub first_cut_line : Dossier → ℕ
 first_cut_line dossier = 10 + plan_length dossier.plan
 
--- a cut is not shown to be lawful (12)
+-- a cut has not one weight for each crude of the plant, or is not valid (12)
 unfoldable pub cut_reasons : Parts → Dossier → List Reason
 cut_reasons parts dossier =
     each_from (λ line (cut : CutLine). unless (is_lawful_cut parts cut) (reason 12 line)) (first_cut_line dossier)

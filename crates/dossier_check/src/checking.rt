@@ -5,17 +5,17 @@ ghost use Rattle.limits.specs.declared.TheConstants.{MOST_SLOTS};
 ghost use Rattle.dossier_text.specs.Ranges.{IsReadable};
 ghost use Rattle.dossier_text.specs.Reading.{plan_length};
 ghost use Rattle.dossier_check.specs.Claims.{claim_of};
-ghost use Rattle.dossier_check.specs.Frames.{is_lawful_cut};
 ghost use Rattle.dossier_check.specs.Reasons.{slot_reasons, cut_reasons, first_cut_line, first_node_line, is_same, fits_answer, claim_reasons, dossier_reasons};
 ghost use Rattle.dossier_check.specs.Verdicts.{IsVerdict, IsYesOfAccepted, ClaimsTruth};
 ghost use Rattle.dossier_check.specs.inside.Tests.{Tests, IsVerdictOn};
 
+use crate::cuts::is_lawful_cut;
 use crate::laws::{accepted_claim_laws, reason_laws};
 use crate::plan::check_plan;
 use crate::reasons::{ANSWER, BOUND, FORM, INVALID_CUT, SLOTS, TOO_MANY};
 use crate::tree::check_tree;
 use crate::verdict::{Claim, Reason, Refusal, Verdict};
-use dossier_text::{CutLine, Dossier, DossierFault, Word3, read_dossier};
+use dossier_text::{Dossier, DossierFault, Word3, read_dossier};
 use item_lists::expect;
 use limits::MOST_SLOTS;
 use plan_text::OpLines;
@@ -44,14 +44,6 @@ fn check_slots(dossier: &Dossier) -> Result<(), Reason>
         1 <= dossier.slots && dossier.slots <= u32::from(MOST_SLOTS),
         Reason::at(SLOTS, 3),
     )
-}
-
-/// Whether entries may name the cut.
-fn is_lawful_cut(plant: &Plant, cut: &CutLine) -> bool
-    ensures { result ≡ is_lawful_cut plant.now cut.now }
-{
-    // so far no cut is shown to be lawful
-    false
 }
 
 /// Tests the cuts, the first of which stands in this line.

@@ -1,8 +1,7 @@
 //! The entries of a leaf: their tests, and the rows that they name.
 
-ghost use Rattle.std.specs.Prelude.{◌≡◌, ◌≤◌, ◌++◌, ◌∷◌, [], List, Some, IfOk, OnOk};
-ghost use Rattle.item_lists.specs.Faults.{first_of};
-ghost use Rattle.limits.specs.declared.TheConstants.{MOST_MULTIPLIER};
+ghost use Rattle.std.specs.Prelude.{◌≡◌, ◌≤◌, ◌++◌, ◌∷◌, [], List, IfOk, OnOk};
+ghost use Rattle.limits.specs.declared.TheConstants.{MOST_MULTIPLIER, MOST_SLOTS};
 ghost use Rattle.row_forms.specs.Fits.{IsFitRow};
 ghost use Rattle.slot_box.specs.declared.term.Term.{Term};
 ghost use Rattle.slot_box.specs.declared.term.Term.TheVariants as terms;
@@ -13,7 +12,8 @@ ghost use Rattle.dossier_check.specs.NodeReasons.{term_reasons, terms_reasons};
 ghost use Rattle.dossier_check.specs.inside.Entering.{AreEntriesOf};
 ghost use Rattle.dossier_check.specs.inside.Tests.{Tests};
 
-use crate::reasons::{CUT, CUT_ROW, LIMITS, ROW};
+use crate::cuts::row_of_cut_entry;
+use crate::reasons::{LIMITS, ROW};
 use crate::verdict::{Reason, Refusal};
 use dossier_text::Dossier;
 use dual_bound::YList;
@@ -57,28 +57,6 @@ fn row_of_entry(
     }
 }
 
-/// Why an entry in this line that names the row of a cut is not lawful: so far none is.
-#[tactic(auto, using(item_lists::proofs::FaultLaws::first_fault), unfolding(crate::specs::NodeReasons::term_reasons))]
-fn reason_against_cut(
-    plant: &Plant,
-    dossier: &Dossier,
-    line: u32,
-    cut: u32,
-    slot: u32,
-    op: u8,
-    y: u64,
-) -> Reason
-    ensures { first_of (term_reasons (setting_of plant.now dossier.now) line (terms.Cut cut slot op y)) ≡ Some result }
-{
-    if y > MOST_MULTIPLIER {
-        Reason::at(LIMITS, line)
-    } else if cut as usize >= dossier.cuts.as_slice().len() {
-        Reason::at(CUT, line)
-    } else {
-        Reason::at(CUT_ROW, line)
-    }
-}
-
 impl Entries {
     /// No entries.
     fn none(alloc: Global) -> Entries
@@ -111,7 +89,8 @@ impl Entries {
         line: u32,
         term: Term,
     ) -> Result<(), Refusal>
-        requires { AreScalesOf plant.now dossier.now.slots scales.now }
+        requires scales { AreScalesOf plant.now dossier.now.slots scales.now }
+        requires slots { dossier.now.slots ≤ MOST_SLOTS }
         ensures reasons { Tests (term_reasons (setting_of plant.now dossier.now) line term) result }
         ensures entries { (terms : List Term)
             → AreEntriesOf plant.now (setting_of plant.now dossier.now) terms self.old
@@ -123,9 +102,11 @@ impl Entries {
                 self.push(row, y)?;
                 Ok(())
             }
-            Term::Cut { cut, slot, op, y } => Err(Refusal::First(reason_against_cut(
-                plant, dossier, line, cut, slot, op, y,
-            ))),
+            Term::Cut { cut, slot, op, y } => {
+                let row = row_of_cut_entry(alloc, plant, dossier, line, cut, slot, op, y)?;
+                self.push(row, y)?;
+                Ok(())
+            }
         }
     }
 }
@@ -139,7 +120,8 @@ pub(crate) fn entries_of(
     line: u32,
     terms: &[Term],
 ) -> Result<Entries, Refusal>
-    requires { AreScalesOf plant.now dossier.now.slots scales.now }
+    requires scales { AreScalesOf plant.now dossier.now.slots scales.now }
+    requires slots { dossier.now.slots ≤ MOST_SLOTS }
     ensures reasons { Tests (terms_reasons (setting_of plant.now dossier.now) line terms.now) result }
     ensures entries { IfOk result (AreEntriesOf plant.now (setting_of plant.now dossier.now) terms.now) }
 {

@@ -2,7 +2,7 @@
 
 ghost use Rattle.std.specs.Prelude.{◌≡◌, ◌==◌, ◌≤◌, ◌++◌, length, IfOk};
 ghost use Rattle.item_lists.specs.Faults.{first_of, unless};
-ghost use Rattle.limits.specs.declared.TheConstants.{MOST_ROWS};
+ghost use Rattle.limits.specs.declared.TheConstants.{MOST_ROWS, MOST_SLOTS};
 ghost use Rattle.slot_box.specs.Boxes.{points_of, only_point};
 ghost use Rattle.slot_box.specs.Ranges.{IsLeafInRange};
 ghost use Rattle.slot_forms.specs.Cases.{plain};
@@ -56,6 +56,7 @@ fn check_void(
     terms: &[Term],
 ) -> Result<(), Refusal>
     requires scales { AreScalesOf plant.now dossier.now.slots scales.now }
+    requires slots { dossier.now.slots ≤ MOST_SLOTS }
     requires sized { length bx.now ≡ dossier.now.slots }
     requires few { length terms.now ≤ MOST_ROWS }
     ensures { let setting = setting_of plant.now dossier.now in
@@ -85,6 +86,7 @@ fn value_of_dual(
     terms: &[Term],
 ) -> Result<i128, Refusal>
     requires scales { AreScalesOf plant.now dossier.now.slots scales.now }
+    requires slots { dossier.now.slots ≤ MOST_SLOTS }
     requires sized { length bx.now ≡ dossier.now.slots }
     requires few { length terms.now ≤ MOST_ROWS }
     ensures reasons { Tests (dual_reasons (setting_of plant.now dossier.now) line q terms.now) result }
@@ -123,6 +125,7 @@ pub(crate) fn value_of_leaf(
     leaf: &Leaf,
 ) -> Result<Option<i128>, Refusal>
     requires scales { AreScalesOf plant.now dossier.now.slots scales.now }
+    requires slots { dossier.now.slots ≤ MOST_SLOTS }
     requires sized { length bx.now ≡ dossier.now.slots }
     requires numbers { IsLeafInRange leaf.now }
     ensures reasons { Tests (leaf_reasons (setting_of plant.now dossier.now) line bx.now leaf.now) result }

@@ -9,16 +9,18 @@
 //! yes says of its plant is true, in the words of legal plans and their margins alone, whoever wrote the
 //! bytes. [`accepted_claim_laws`] says the same of each accepted dossier. The reasons are a definition of their
 //! own, which lists all that stands against a dossier in the order of the tests; [`reason_laws`] says that
-//! nothing does exactly where it is accepted. So far no cut is shown to be lawful.
+//! nothing does exactly where it is accepted.
 //!
 //! Begin with `specs/Accepted`, from there go to `specs/Frames`, which has the case and the cuts that a dossier is
 //! about, and to `specs/Claims`; then, for the first reason, with `specs/Reasons` and `specs/NodeReasons`, and for
 //! the answer with `specs/Verdicts`. In the code `checking` goes through the tests in their order, and `tree`
 //! meets each node once: `met` keeps the boxes of the nodes whose parents were met, `entries` makes the rows that the
-//! entries of a leaf name, once for their test and for the value. `specs/inside` only carries proofs.
+//! entries of a leaf name, once for their test and for the value, `cuts` those of cuts. `specs/inside` only carries
+//! proofs.
 #![tactic(auto)]
 
 mod checking;
+mod cuts;
 mod entries;
 mod laws;
 mod leaves;

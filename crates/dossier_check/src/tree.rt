@@ -84,6 +84,7 @@ fn meet(
     id: u32,
     node: &Node,
 ) -> Result<Option<i128>, Refusal>
+    requires slots { dossier.now.slots ≤ MOST_SLOTS }
     requires few { dossier.now.nodes ≤ MOST_NODES }
     requires next { id < 2 * dossier.now.nodes + 1 }
     requires line { first_line ≤ LAST_FIRST_LINE }
@@ -117,6 +118,7 @@ fn walk(
     first_line: u32,
     root: SlotBox,
 ) -> Result<Option<i128>, Refusal>
+    requires slots { dossier.now.slots ≤ MOST_SLOTS }
     requires few { dossier.now.nodes ≤ MOST_NODES }
     requires line { first_line ≤ LAST_FIRST_LINE }
     requires nodes { length dossier.now.tree ≡ 2 * dossier.now.nodes + 1 }

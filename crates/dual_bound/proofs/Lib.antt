@@ -5,6 +5,7 @@ pub mod EarnedLaws
 pub mod FactorLaws
 pub mod KeepLaws
 pub mod LeastLaws
+pub mod PowerLaws
 pub mod RoomLaws
 pub mod SingleLaws
 pub mod StoredNumbers

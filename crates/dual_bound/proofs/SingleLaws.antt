@@ -51,12 +51,12 @@ factors-sum extent change (term ∷ terms) none columns once =
 
 -- ---- multipliers of which at most one is not 0
 
-pairs-zeros : {Y : Type 0} (f : ℕ → Y → ℤ) (n : ℕ) (ys : List Y) → ((y : Y) → f 0 y ≡ pos 0) → total_by_pairs f (replicate n 0) ys ≡ pos 0
+pub pairs-zeros : {Y : Type 0} (f : ℕ → Y → ℤ) (n : ℕ) (ys : List Y) → ((y : Y) → f 0 y ≡ pos 0) → total_by_pairs f (replicate n 0) ys ≡ pos 0
 pairs-zeros f zero ys none = refl
 pairs-zeros f (suc n) [] none = refl
 pairs-zeros f (suc n) (y ∷ ys) none = let first = none y in let rest = pairs-zeros f n ys none in omega (arith, ints, first, rest)
 
-pairs-single : {Y : Type 0} (f : ℕ → Y → ℤ) (n r x : ℕ) (ys : List Y) (d : Y) → ((y : Y) → f 0 y ≡ pos 0) → r < n → r < length ys →
+pub pairs-single : {Y : Type 0} (f : ℕ → Y → ℤ) (n r x : ℕ) (ys : List Y) (d : Y) → ((y : Y) → f 0 y ≡ pos 0) → r < n → r < length ys →
     total_by_pairs f (slice_set (replicate n 0) r x) ys ≡ f x (get_or ys r d)
 pairs-single f zero r x ys d none first second = absurd (omega arith)
 pairs-single f (suc n) r x [] d none first second = absurd (omega arith)

@@ -86,8 +86,15 @@ fn keep_single(best: &mut Best, r: usize, y: u64, value: i128)
     }
 }
 
-/// Tries one multiplier on its own, by the weights and the sum of no multipliers at all.
-fn try_single(system: &System, r: usize, y: u64, weights: &[i128], zero_sum: i128, best: &mut Best)
+/// Tries one multiplier on its own, by the weights and the sum of no multipliers at all. The answer is its value.
+fn try_single(
+    system: &System,
+    r: usize,
+    y: u64,
+    weights: &[i128],
+    zero_sum: i128,
+    best: &mut Best,
+) -> i128
     requires whole { IsWhole system.now }
     requires row { r < row_count system.now }
     requires some { 1 ≤ y }
@@ -99,15 +106,19 @@ fn try_single(system: &System, r: usize, y: u64, weights: &[i128], zero_sum: i12
     ensures known { IsKnown system.now best.new }
     ensures before { best.new.value ≤ℤ best.old.value }
     ensures tried { best.new.value ≤ℤ value_in system.now (single (row_count system.now) r y) 1 }
+    ensures value { result ≡ value_in system.now (single (row_count system.now) r y) 1 }
 {
     let _ends = system.ranges.ends();
     let row = &system.rows[r];
     let change = change_by(row.terms(), system.ranges, weights, y);
     let right = plus(zero_sum, scaled(i128::from(y), row.right()));
-    keep_single(best, r, y, plus(right, change));
+    let value = plus(right, change);
+    keep_single(best, r, y, value);
+    value
 }
 
-/// Tries the powers of two up to 2^20 on one row.
+/// Tries the powers of two up to 2^20 on one row, until one has no less value than the one before it: then no further
+/// one has.
 fn try_powers(system: &System, r: usize, weights: &[i128], zero_sum: i128, best: &mut Best)
     requires whole { IsWhole system.now }
     requires row { r < row_count system.now }
@@ -119,8 +130,13 @@ fn try_powers(system: &System, r: usize, weights: &[i128], zero_sum: i128, best:
     ensures before { best.new.value ≤ℤ best.old.value }
     ensures powers { IsBelowPowers system.now.rows.now system.now.ranges.now system.now.objective.now best.new.value r }
 {
+    let mut before = zero_sum;
     for k in 0..21u32 {
-        try_single(system, r, 1 << k, weights, zero_sum, best);
+        let value = try_single(system, r, 1 << k, weights, zero_sum, best);
+        if before <= value {
+            return;
+        }
+        before = value;
     }
 }
 

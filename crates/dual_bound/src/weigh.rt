@@ -1,4 +1,4 @@
-ghost use Rattle.std.specs.Prelude.{◌≡◌, ◌+◌, ◌^◌, ◌≤◌, length, ◌*ℤ◌, neg_ℤ, All, unsigned_abs};
+ghost use Rattle.std.specs.Prelude.{◌≡◌, ◌+◌, ◌^◌, ◌≤◌, length, pos, ◌*ℤ◌, neg_ℤ, All, unsigned_abs};
 ghost use Rattle.linear_form.specs.Columns.{IsColumn};
 ghost use Rattle.linear_form.specs.Rows.{HasEachOnce};
 ghost use Rattle.dual_bound.specs.Dual.{factor_in, factor_of, weighed_factor};
@@ -44,6 +44,37 @@ fn add_terms(ranges: &Ranges, terms: &[RowTerm], times: i128, from: usize, cells
     }
 }
 
+fn has_small_factor(term: RowTerm)
+    ensures { unsigned_abs term.factor ≤ 2 ^ 63 }
+{
+    let _factor = term.factor;
+}
+
+fn have_small_factors(ranges: &Ranges, terms: &[RowTerm])
+    requires columns { AreColumns ranges.now.extent terms.now }
+    requires once { HasEachOnce terms.now }
+    ensures { HasSmallFactors ranges.now.extent terms.now }
+{
+    for term in terms {
+        has_small_factor(*term);
+    }
+}
+
+/// Takes the terms' factors away as often as the multiplier says. Most multipliers are 0.
+fn take_row(ranges: &Ranges, terms: &[RowTerm], y: u64, from: usize, cells: &mut [i128])
+    requires columns { AreColumns ranges.now.extent terms.now }
+    requires once { HasEachOnce terms.now }
+    requires few { y ≤ MOST_MULTIPLIER }
+    requires room { AreWithin (2 ^ 125) cells.old }
+    ensures added { Adds (λ k. neg_ℤ (pos y) *ℤ factor_of ranges.now.extent (from + k) terms.now) cells.old cells.new }
+    ensures small { HasSmallFactors ranges.now.extent terms.now }
+{
+    have_small_factors(ranges, terms);
+    if y > 0 {
+        add_terms(ranges, terms, negative(y), from, cells);
+    }
+}
+
 /// Takes each row's factors away as often as its multiplier says.
 fn take_rows(ranges: &Ranges, rows: &[Row], multipliers: &[u64], from: usize, cells: &mut [i128])
     requires few { length rows.now ≤ MOST_ROWS }
@@ -56,7 +87,7 @@ fn take_rows(ranges: &Ranges, rows: &[Row], multipliers: &[u64], from: usize, ce
     ensures within { AreWithin (2 ^ 125) cells.new }
 {
     for (r, row) in rows.iter().enumerate() {
-        add_terms(ranges, row.terms(), negative(multipliers[r]), from, cells);
+        take_row(ranges, row.terms(), multipliers[r], from, cells);
     }
 }
 

@@ -23,17 +23,11 @@ pub(crate) fn put<T: Copy>(items: &mut [T], index: usize, item: T) {
     }
 }
 
-/// Whether a product with another such number has room.
-fn is_short(number: i128) -> bool {
-    number.unsigned_abs() <= 1 << 62
-}
-
 /// The product, unless it would leave 128 bits on the way.
 pub(crate) fn times(first: i128, second: i128) -> Option<i128> {
-    if is_short(first) && is_short(second) {
-        Some(first.wrapping_mul(second) >> 40)
-    } else {
-        Some(first.checked_mul(second)? >> 40)
+    match (i64::try_from(first), i64::try_from(second)) {
+        (Ok(first), Ok(second)) => Some(i128::from(first).wrapping_mul(i128::from(second)) >> 40),
+        _ => Some(first.checked_mul(second)? >> 40),
     }
 }
 
@@ -61,12 +55,7 @@ pub(crate) fn shifted(number: i128, by: i32) -> i128 {
 
 /// How many bits the number has.
 pub(crate) fn bits_of(number: u128) -> i32 {
-    for bits in 0..128u32 {
-        if number >> bits == 0 {
-            return bits as i32;
-        }
-    }
-    128
+    128i32.saturating_sub(number.leading_zeros() as i32)
 }
 
 /// The sum of the products of the first so many numbers.

@@ -1,9 +1,9 @@
 //! Multipliers of rows, from a linear program that is solved in fixed point.
 //!
 //! Of rows, ranges and an objective [`multipliers`] makes a guess that names each row by one number, each within its
-//! limit, and so does [`multipliers_within`] with few pivots, so that `bound`, `shows_empty` and `improve` of `dual_bound` may be called on it. That is all that is
-//! promised: what the guess is worth is measured, and `bound` values it exactly. Where the rows have no point at
-//! all, the guess is meant to show it.
+//! limit, so that `bound`, `shows_empty` and `improve` of `dual_bound` may be called on it; so does [`multipliers_by`],
+//! stage by stage and with few pivots. That is all that is promised: what the guess is worth is measured, and `bound`
+//! values it exactly. Where the rows have no point at all, the guess is meant to show it.
 //!
 //! Within, a bounded dual simplex works on numbers of 128 bits, 40 of them after the point. It stops where no
 //! row and no range is violated, where nothing can meet the violated one, after so many pivots, or where a number
@@ -16,6 +16,7 @@
 //! outside it.
 #![tactic(auto)]
 
+mod course;
 mod denominators;
 mod fixed;
 mod inverse;
@@ -27,4 +28,5 @@ mod rounding;
 mod scale;
 mod solving;
 
-pub use rounding::{multipliers, multipliers_within};
+pub use course::Course;
+pub use rounding::{multipliers, multipliers_by};

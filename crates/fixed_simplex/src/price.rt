@@ -1,6 +1,6 @@
 use crate::fixed::{ONE, add_scaled, at, copy_first, product_sum, put, times};
 use crate::scale::{Entry, Program};
-use crate::solving::{Basis, Leaving, Work};
+use crate::solving::{Basis, Leaving, Suspects, Work};
 
 /// A weight that counts as 0: about a ten-millionth.
 const TINY: i128 = ONE >> 23;
@@ -55,20 +55,21 @@ fn activity(entries: &[Entry], values: &[i128]) -> Option<i128> {
     Some(sum)
 }
 
-/// Puts each column that is not basic at the end that earns more, and the others at 0.
+/// Puts each free column that is not basic at the end that earns more, and the others at 0.
 fn place_columns(program: &Program, basis: &mut Basis, weights: &[i128], values: &mut [i128]) {
-    for j in 0..values.len() {
-        let weight = at(weights, j, 0);
+    for j in program.free.as_slice() {
+        let weight = at(weights, *j, 0);
         if weight > TINY || weight < -TINY {
-            basis.set_at_most(j, weight > 0);
+            basis.set_at_most(*j, weight > 0);
         }
-        values[j] = if basis.column_place(j).is_some() {
+        let value = if basis.column_place(*j).is_some() {
             0
-        } else if basis.is_at_most(j) {
-            at(program.most.as_slice(), j, 0)
+        } else if basis.is_at_most(*j) {
+            at(program.most.as_slice(), *j, 0)
         } else {
-            at(program.least.as_slice(), j, 0)
+            at(program.least.as_slice(), *j, 0)
         };
+        put(values, *j, value);
     }
 }
 
@@ -129,37 +130,80 @@ fn farthest_column(
     Some((found, farthest))
 }
 
-/// The row that is violated most, and by how much; `least` where none is violated more.
+/// By how much a row is violated, if it is not tight.
+fn violation_of(program: &Program, basis: &Basis, values: &[i128], row: usize) -> Option<i128> {
+    if basis.row_place(row).is_some() {
+        return Some(0);
+    }
+    let used = activity(program.row(row), values)?;
+    used.checked_sub(at(program.rights.as_slice(), row, 0))
+}
+
+/// The row of these that is violated most, and by how much; `least` where none is violated more.
 fn worst_row(
     program: &Program,
     basis: &Basis,
     values: &[i128],
+    rows: &[usize],
     least: i128,
 ) -> Option<(Option<Leaving>, i128)> {
     let mut worst = least;
     let mut found = None;
-    for r in 0..program.row_count() {
-        if basis.row_place(r).is_none() {
-            let used = activity(program.row(r), values)?;
-            let violation = used.checked_sub(at(program.rights.as_slice(), r, 0))?;
-            if violation > worst {
-                worst = violation;
-                found = Some(Leaving::Row(r));
-            }
+    for row in rows {
+        let violation = violation_of(program, basis, values, *row)?;
+        if violation > worst {
+            worst = violation;
+            found = Some(Leaving::Row(*row));
         }
     }
     Some((found, worst))
 }
 
-/// What is violated most, by more than 1, and by how much.
-pub(crate) fn find_leaving(
+/// Suspects each of the first so many rows that is violated by more than 1.
+fn suspect_violated(
     program: &Program,
     basis: &Basis,
     values: &[i128],
+    pool: usize,
+    suspects: &mut Suspects,
+) -> Option<()> {
+    suspects.count = 0;
+    for row in 0..pool.min(program.row_count()) {
+        if violation_of(program, basis, values, row)? > ONE {
+            suspects.add(row);
+        }
+    }
+    Some(())
+}
+
+/// The worst of the suspects, and by how much it is violated; `least` where none is violated more.
+fn worst_suspect(
+    program: &Program,
+    basis: &Basis,
+    work: &Work,
+    least: i128,
+) -> Option<(Option<Leaving>, i128)> {
+    let rows = work.suspects.rows();
+    worst_row(program, basis, work.values.as_slice(), rows, least)
+}
+
+/// What is violated most, by more than 1, and by how much: of the basic columns and of the rows that were violated when
+/// all of the first so many were looked at last. Where none of these is, all are looked at.
+pub(crate) fn find_leaving(
+    program: &Program,
+    basis: &Basis,
+    pool: usize,
+    work: &mut Work,
 ) -> Option<Option<(Leaving, i128)>> {
-    let (column, farthest) = farthest_column(program, basis, values, ONE)?;
-    let (row, worst) = worst_row(program, basis, values, farthest)?;
-    Some(row.or(column).map(|leaving| (leaving, worst)))
+    let (column, farthest) = farthest_column(program, basis, work.values.as_slice(), ONE)?;
+    let (row, worst) = worst_suspect(program, basis, work, farthest)?;
+    if let Some(leaving) = row.or(column) {
+        return Some(Some((leaving, worst)));
+    }
+    let values = work.values.as_slice();
+    suspect_violated(program, basis, values, pool, &mut work.suspects)?;
+    let (row, worst) = worst_suspect(program, basis, work, ONE)?;
+    Some(row.map(|leaving| (leaving, worst)))
 }
 
 /// The leaving row in terms of the tight rows: its factors in the basic columns by the inverse.
@@ -229,15 +273,16 @@ pub(crate) fn dual_value(
     prices: &[i128],
     weights: &[i128],
 ) -> Option<i128> {
-    let mut sum = right_value(program, basis, prices)?;
-    for j in 0..weights.len() {
-        if basis.column_place(j).is_none() {
-            let end = if weights[j] > 0 {
-                at(program.most.as_slice(), j, 0)
+    let mut sum = right_value(program, basis, prices)?.checked_add(program.fixed_gain)?;
+    for j in program.free.as_slice() {
+        let weight = at(weights, *j, 0);
+        if weight != 0 && basis.column_place(*j).is_none() {
+            let end = if weight > 0 {
+                at(program.most.as_slice(), *j, 0)
             } else {
-                at(program.least.as_slice(), j, 0)
+                at(program.least.as_slice(), *j, 0)
             };
-            sum = sum.checked_add(times(weights[j], end)?)?;
+            sum = sum.checked_add(times(weight, end)?)?;
         }
     }
     Some(sum)

@@ -62,20 +62,14 @@ fn column_breaks(
     breaks: &mut [Break],
 ) -> Option<usize> {
     let mut count: usize = 0;
-    for j in 0..reduced.len() {
-        let most = basis.is_at_most(j);
-        let slope = if most {
-            reduced[j]
-        } else {
-            reduced[j].checked_neg()?
-        };
-        if slope > TINY
-            && basis.column_place(j).is_none()
-            && at(program.least.as_slice(), j, 0) < at(program.most.as_slice(), j, 0)
-        {
-            let weight = at(weights, j, 0);
+    for j in program.free.as_slice() {
+        let most = basis.is_at_most(*j);
+        let less = at(reduced, *j, 0);
+        let slope = if most { less } else { less.checked_neg()? };
+        if slope > TINY && basis.column_place(*j).is_none() {
+            let weight = at(weights, *j, 0);
             let level = if most { weight } else { weight.checked_neg()? };
-            put(breaks, count, break_of(level, slope, Entering::Column(j))?);
+            put(breaks, count, break_of(level, slope, Entering::Column(*j))?);
             count = count.saturating_add(1);
         }
     }

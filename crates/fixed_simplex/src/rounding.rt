@@ -4,12 +4,13 @@ ghost use Rattle.dual_bound.specs.Conditions.{IsSystem, IsObjective, IsGuess};
 ghost use Rattle.fixed_simplex.specs.inside.Problems.{IsWhole};
 ghost use Rattle.limits.specs.declared.TheConstants.{MOST_MULTIPLIER, SIMPLEX_COLUMNS};
 
+use crate::course::Course;
 use crate::denominators::{common, finest, greatest_of};
 use crate::fixed::{ONE, at, bits_of, put, shifted};
 use crate::price::{dual_value, find_prices, find_weights};
 use crate::problem::Problem;
 use crate::scale::{Program, program_of};
-use crate::solving::{Basis, Leaving, Stopped, Work, solve};
+use crate::solving::{Basis, Leaving, Stopped, Work, solve_in_stages};
 use dual_bound::{Guess, YList, bound, shows_empty};
 use limits::{MOST_MULTIPLIER, SIMPLEX_PIVOTS};
 use linear_form::{Objective, Ranges, RowList};
@@ -289,16 +290,21 @@ pub fn multipliers(
     requires columns { count_of ranges.now.extent ≤ SIMPLEX_COLUMNS }
     ensures { IfOk result (λ guess. IsGuess rows.now guess.y guess.q) }
 {
-    multipliers_within(alloc, rows, ranges, objective, SIMPLEX_PIVOTS)
+    let course = Course {
+        stages: &[rows.as_slice().len()],
+        pivots: SIMPLEX_PIVOTS,
+        enough: None,
+    };
+    multipliers_by(alloc, rows, ranges, objective, &course)
 }
 
-/// The same with at most so many pivots: what it has come to by then serves.
-pub fn multipliers_within(
+/// The same by a course of stages: what it has come to in the end serves.
+pub fn multipliers_by(
     alloc: Global,
     rows: &RowList,
     ranges: &Ranges,
     objective: &Objective,
-    pivots: u32,
+    course: &Course<'_>,
 ) -> Result<Guess, AllocError>
     requires system { IsSystem rows.now ranges.now }
     requires objective { IsObjective ranges.now objective.now }
@@ -306,10 +312,10 @@ pub fn multipliers_within(
     ensures { IfOk result (λ guess. IsGuess rows.now guess.y guess.q) }
 {
     let program = program_of(alloc, rows, ranges, objective)?;
-    let mut basis = Basis::new(alloc, &program, pivots)?;
-    let mut work = Work::new(alloc, &program, pivots)?;
+    let mut basis = Basis::new(alloc, &program, course.pivots)?;
+    let mut work = Work::new(alloc, &program, course.pivots)?;
     let mut numbers = vec![in alloc; 0i128; rows.as_slice().len()]?;
-    let stopped = solve(&program, &mut basis, &mut work, pivots);
+    let stopped = solve_in_stages(&program, &mut basis, &mut work, course);
     let numbers = numbers.as_mut_slice();
     if let Stopped::Empty(leaving) = stopped {
         share_rows(&program, &basis, leaving, work.slopes.as_slice(), numbers);

@@ -32,8 +32,12 @@ pub(crate) struct Program {
     /// The objective, each factor a little greater, no two by the same amount.
     pub moved_gains: Vec<i128>,
     pub gain_shift: i32,
+    /// What the columns earn that have one number alone. They stand in no row.
+    pub fixed_gain: i128,
     pub least: Vec<i128>,
     pub most: Vec<i128>,
+    /// The other columns.
+    pub free: Vec<usize>,
 }
 
 impl Program {
@@ -63,39 +67,61 @@ fn group_of(part: Part) -> usize {
     }
 }
 
+/// Copies the terms whose columns have more than one number, and gives what the others come to.
 fn copy_terms(
     entries: &mut Vec<Entry>,
     terms: &[RowTerm],
     ranges: &Ranges,
-) -> Result<(), AllocError>
+) -> Result<i128, AllocError>
     requires { AreColumns ranges.now.extent terms.now }
 {
+    let ends = ranges.ends();
+    let mut fixed: i128 = 0;
     for term in terms {
-        entries.push(Entry {
-            column: ranges.number(term.column),
-            group: group_of(term.column.part),
-            factor: i128::from(term.factor),
-        })?;
+        let column = ranges.number(term.column);
+        let Interval { lo, hi } = ends[column];
+        let factor = i128::from(term.factor);
+        if lo < hi {
+            entries.push(Entry {
+                column,
+                group: group_of(term.column.part),
+                factor,
+            })?;
+        } else {
+            fixed = fixed.saturating_add(factor.saturating_mul(i128::from(lo)));
+        }
+    }
+    Ok(fixed)
+}
+
+/// Copies the rows: where the entries of each begin and the last ends, and what each has for its entries.
+fn copy_rows(
+    entries: &mut Vec<Entry>,
+    starts: &mut Vec<usize>,
+    rights: &mut Vec<i128>,
+    rows: &[Row],
+    ranges: &Ranges,
+) -> Result<(), AllocError>
+    requires { All (λ row. AreColumns ranges.now.extent row.terms) rows.now }
+{
+    starts.push(0)?;
+    for r in 0..rows.len() {
+        let fixed = copy_terms(entries, rows[r].terms(), ranges)?;
+        starts.push(entries.len())?;
+        rights.push(i128::from(rows[r].right()).saturating_sub(fixed))?;
     }
     Ok(())
 }
 
-/// Copies the rows, and gives where the entries of each begin and the last ends.
-fn copy_rows(
-    alloc: Global,
-    entries: &mut Vec<Entry>,
-    rows: &[Row],
-    ranges: &Ranges,
-) -> Result<Vec<usize>, AllocError>
-    requires { All (λ row. AreColumns ranges.now.extent row.terms) rows.now }
-{
-    let mut starts = Vec::new(alloc);
-    starts.push(0)?;
-    for r in 0..rows.len() {
-        copy_terms(entries, rows[r].terms(), ranges)?;
-        starts.push(entries.len())?;
+/// The columns that have more than one number.
+fn free_columns(alloc: Global, ends: &[Interval]) -> Result<Vec<usize>, AllocError> {
+    let mut free = Vec::new(alloc);
+    for j in 0..ends.len() {
+        if ends[j].lo < ends[j].hi {
+            free.push(j)?;
+        }
     }
-    Ok(starts)
+    Ok(free)
 }
 
 /// The greatest absolute end of each group.
@@ -149,11 +175,11 @@ fn scale_rows(entries: &mut [Entry], starts: &[usize], shifts: &[i32], row_shift
     }
 }
 
-/// The right sides, scaled.
-fn scale_rights(rows: &[Row], row_shifts: &[i32], rights: &mut [i128]) {
-    for r in 0..rows.len() {
+/// Scales the right sides.
+fn scale_rights(row_shifts: &[i32], rights: &mut [i128]) {
+    for r in 0..rights.len() {
         let shift = FRACTION.saturating_add(at(row_shifts, r, 0));
-        put(rights, r, shifted(i128::from(rows[r].right()), shift));
+        rights[r] = shifted(rights[r], shift);
     }
 }
 
@@ -206,9 +232,11 @@ pub(crate) fn program_of(
     let rows = rows.as_slice();
     let ends = ranges.ends();
     let mut entries = Vec::new(alloc);
-    let starts = copy_rows(alloc, &mut entries, rows, ranges)?;
+    let mut starts = Vec::new(alloc);
+    let mut rights = Vec::new(alloc);
+    copy_rows(&mut entries, &mut starts, &mut rights, rows, ranges)?;
     let mut goal = Vec::new(alloc);
-    copy_terms(&mut goal, objective.as_slice(), ranges)?;
+    let fixed = copy_terms(&mut goal, objective.as_slice(), ranges)?;
     let mut reaches = [0u128; 3];
     find_reaches(entries.as_slice(), ends, &mut reaches);
     find_reaches(goal.as_slice(), ends, &mut reaches);
@@ -222,8 +250,7 @@ pub(crate) fn program_of(
         shifts.as_slice(),
         row_shifts.as_mut_slice(),
     );
-    let mut rights = vec![in alloc; 0i128; rows.len()]?;
-    scale_rights(rows, row_shifts.as_slice(), rights.as_mut_slice());
+    scale_rights(row_shifts.as_slice(), rights.as_mut_slice());
     let mut least = vec![in alloc; 0i128; ends.len()]?;
     let mut most = vec![in alloc; 0i128; ends.len()]?;
     scale_ends(
@@ -244,7 +271,9 @@ pub(crate) fn program_of(
         gains,
         moved_gains,
         gain_shift,
+        fixed_gain: shifted(fixed, gain_shift.saturating_add(FRACTION)),
         least,
         most,
+        free: free_columns(alloc, ends)?,
     })
 }

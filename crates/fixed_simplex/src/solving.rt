@@ -1,7 +1,8 @@
-use crate::fixed::{at, put};
+use crate::course::Course;
+use crate::fixed::{FRACTION, at, put, shifted};
 use crate::inverse::Matrix;
 use crate::pivot::{exchange, rebuild};
-use crate::price::{find_leaving, find_prices, find_slopes, find_values, find_weights};
+use crate::price::{dual_value, find_leaving, find_prices, find_slopes, find_values, find_weights};
 use crate::ratio::{Break, find_entering};
 use crate::scale::Program;
 use limits::MOST_ROWS;
@@ -9,6 +10,12 @@ use std::alloc::{AllocError, Global};
 
 /// After so many pivots the inverse is made anew.
 const REBUILD_EVERY: u32 = 100;
+
+/// Once in so many pivots it is asked whether the value is enough.
+const ASKED_EVERY: u32 = 8;
+
+/// By which power of two, of the value that is enough, it is to come down further.
+const GOAL_BITS: u32 = 8;
 
 /// The place of what has none.
 const NOWHERE: usize = usize::MAX;
@@ -128,6 +135,25 @@ impl Basis {
     }
 }
 
+/// Rows that were violated when all were looked at last.
+#[derive(Drop)]
+pub(crate) struct Suspects {
+    rows: Vec<usize>,
+    /// How many there are.
+    pub count: usize,
+}
+
+impl Suspects {
+    pub fn add(&mut self, row: usize) {
+        put(self.rows.as_mut_slice(), self.count, row);
+        self.count = self.count.saturating_add(1);
+    }
+
+    pub fn rows(&self) -> &[usize] {
+        &self.rows[..self.count.min(self.rows.len())]
+    }
+}
+
 /// What is computed anew at each pivot.
 #[derive(Drop)]
 pub(crate) struct Work {
@@ -148,6 +174,7 @@ pub(crate) struct Work {
     /// The factors of a change of the inverse.
     pub factors: Vec<i128>,
     pub breaks: Vec<Break>,
+    pub suspects: Suspects,
     /// The tight rows' factors in the basic columns, and what becomes their inverse.
     pub kernel: Matrix,
     pub fresh: Matrix,
@@ -162,13 +189,17 @@ impl Work {
         Ok(Work {
             prices: vec![in alloc; 0i128; width]?,
             weights: vec![in alloc; 0i128; columns]?,
-            values: vec![in alloc; 0i128; columns]?,
+            values: Vec::from_slice(alloc, program.least.as_slice())?,
             rests: vec![in alloc; 0i128; width]?,
             slopes: vec![in alloc; 0i128; width]?,
             reduced: vec![in alloc; 0i128; columns]?,
             steps: vec![in alloc; 0i128; width]?,
             factors: vec![in alloc; 0i128; width]?,
             breaks: vec![in alloc; Break::NONE; columns.saturating_add(width)]?,
+            suspects: Suspects {
+                rows: vec![in alloc; 0usize; program.row_count()]?,
+                count: 0,
+            },
             kernel: Matrix::new(alloc, width)?,
             fresh: Matrix::new(alloc, width)?,
             row_of: vec![in alloc; NOWHERE; width]?,
@@ -190,14 +221,36 @@ pub(crate) enum Stopped {
     Optimal,
     /// Nothing can meet what is violated.
     Empty(Leaving),
+    /// The value has come down far enough.
+    Enough,
     /// There were so many pivots, or so many tight rows.
     Limit,
     /// A number would have left its bits.
     TooLarge,
 }
 
+/// Whether the value at the basis has come down to what is enough.
+fn is_enough(program: &Program, basis: &Basis, work: &Work, enough: Option<i128>) -> Option<bool> {
+    let Some(enough) = enough else {
+        return Some(false);
+    };
+    let value = dual_value(
+        program,
+        basis,
+        work.prices.as_slice(),
+        work.weights.as_slice(),
+    )?;
+    Some(value <= enough)
+}
+
 /// One pivot, or why there is none; nothing where a number would leave its bits.
-fn step(program: &Program, basis: &mut Basis, work: &mut Work) -> Option<Option<Stopped>> {
+fn step(
+    program: &Program,
+    basis: &mut Basis,
+    work: &mut Work,
+    pool: usize,
+    enough: Option<i128>,
+) -> Option<Option<Stopped>> {
     find_prices(
         program.moved_gains.as_slice(),
         basis,
@@ -210,8 +263,11 @@ fn step(program: &Program, basis: &mut Basis, work: &mut Work) -> Option<Option<
         work.prices.as_slice(),
         work.weights.as_mut_slice(),
     )?;
+    if is_enough(program, basis, work, enough)? {
+        return Some(Some(Stopped::Enough));
+    }
     find_values(program, basis, work)?;
-    let Some((leaving, violation)) = find_leaving(program, basis, work.values.as_slice())? else {
+    let Some((leaving, violation)) = find_leaving(program, basis, pool, work)? else {
         return Some(Some(Stopped::Optimal));
     };
     find_slopes(program, basis, leaving, work)?;
@@ -225,17 +281,57 @@ fn step(program: &Program, basis: &mut Basis, work: &mut Work) -> Option<Option<
     Some(None)
 }
 
-/// Goes on from a basis for so many pivots.
-pub(crate) fn solve(program: &Program, basis: &mut Basis, work: &mut Work, pivots: u32) -> Stopped {
+/// Goes on from a basis for so many pivots, over the first so many rows. Says how many pivots are left.
+fn solve(
+    program: &Program,
+    basis: &mut Basis,
+    work: &mut Work,
+    pool: usize,
+    pivots: u32,
+    enough: Option<i128>,
+) -> (Stopped, u32) {
+    work.suspects.count = 0;
     for pivot in 0..pivots {
-        match step(program, basis, work) {
-            None => return Stopped::TooLarge,
-            Some(Some(stopped)) => return stopped,
+        let asked = if pivot % ASKED_EVERY == ASKED_EVERY - 1 {
+            enough
+        } else {
+            None
+        };
+        match step(program, basis, work, pool, asked) {
+            None => return (Stopped::TooLarge, 0),
+            Some(Some(stopped)) => return (stopped, pivots - pivot),
             Some(None) => {}
         }
         if pivot % REBUILD_EVERY == REBUILD_EVERY - 1 && rebuild(program, basis, work).is_none() {
-            return Stopped::TooLarge;
+            return (Stopped::TooLarge, 0);
         }
     }
-    Stopped::Limit
+    (Stopped::Limit, 0)
+}
+
+/// What a value has to come down to, scaled: a little further than is asked, since prices are rounded in the end.
+fn scaled_goal(program: &Program, enough: Option<i64>) -> Option<i128> {
+    let goal = i128::from(enough?);
+    let goal = goal.saturating_sub(goal.saturating_abs() >> GOAL_BITS);
+    Some(shifted(goal, program.gain_shift.saturating_add(FRACTION)))
+}
+
+/// Solves over the first rows of each stage in turn, from the basis of the stage before, until nothing can be met, the
+/// value is enough, or so many pivots have been made in all.
+pub(crate) fn solve_in_stages(
+    program: &Program,
+    basis: &mut Basis,
+    work: &mut Work,
+    course: &Course,
+) -> Stopped {
+    let goal = scaled_goal(program, course.enough);
+    let mut left = course.pivots;
+    for pool in course.stages {
+        let (stopped, rest) = solve(program, basis, work, *pool, left, goal);
+        if !matches!(&stopped, Stopped::Optimal) {
+            return stopped;
+        }
+        left = rest;
+    }
+    Stopped::Optimal
 }

@@ -1,14 +1,16 @@
 -- The value of a lawful leaf reaches the margin of every form in its box that is sought, and the bound of a lawful tree that of every plan of its case.
 use Rattle.std.proofs.Common.{◌≡◌, ℕ, ◌-◌, ◌≤◌, inl, inr, Bool, true, false, ℤ, pos, ◌≤ℤ◌, ◌<ℤ◌, Option, Some, None, List, [], ◌∷◌, map, drop, length, is_some, is_none, if◌then◌else◌, refl, sym, ap, ◌∙◌, subst, arith}
 use Rattle.std.specs.Prelude.{◌&&◌, slice_get}
+use Rattle.std.specs.Option.{option_and_then}
 use Rattle.std.proofs.lemmas.Bool.{and_parts, cond-true, cases_lt, eq-eqb, le-leb}
 use Rattle.std.proofs.lemmas.Int.{ints}
 use Rattle.std.proofs.lemmas.List.{drop-drop, drop-map}
 use Rattle.std.proofs.lemmas.List.Elements.{All-head, All-tail, All-nil, All-cons}
+use Rattle.blend_cuts.specs.CutRows.{cut_row_of}
 use Rattle.dual_bound.specs.Dual.{dual_value, emptiness_sum}
 use Rattle.linear_form.specs.Rows.{RowForm}
-use Rattle.named_rows.specs.Laws.{AreNamed, IsFormIn, MayBe, DualValuesBoundMargins, EmptyBoxesHaveNoForm}
-use Rattle.named_rows.specs.NamedRows.{named_row_of, IsNamed}
+use Rattle.named_rows.specs.Laws.{IsFormIn, IsLawfulRow, of_name, of_cut, AreLawfulRows, DualValuesBoundMargins, EmptyBoxesHaveNoForm}
+use Rattle.named_rows.specs.NamedRows.{named_row_of}
 use Rattle.normal_order.specs.NormalWords.{IsNormalWord}
 use Rattle.overlap_graph.specs.Independence.{independence_of}
 use Rattle.plant_model.specs.declared.parts.Parts.{Parts}
@@ -18,6 +20,7 @@ use Rattle.replay_core.specs.declared.timed.Timed.{Timed}
 use Rattle.replay_core.specs.Legal.{first_broken_in}
 use Rattle.replay_core.specs.Margin.{margin_of}
 use Rattle.slot_automaton.specs.Normal.{IsNormal}
+use Rattle.slot_box.specs.declared.cut.CutParams.{CutParams}
 use Rattle.slot_box.specs.declared.node.Leaf.TheVariants.{Dead, Void, Dual, Undone, Point}
 use Rattle.slot_box.specs.declared.node.Node.{Node}
 use Rattle.slot_box.specs.declared.node.Node.TheVariants.{Inner, Leaf}
@@ -34,7 +37,7 @@ use Rattle.slot_forms.specs.Forms.{word_of, is_form, is_lawful_form, starts_late
 use Rattle.slot_rows.specs.Objective.{objective_of}
 use Rattle.slot_rows.specs.Ranges.{ranges_of}
 use Rattle.leaf_value.specs.LeafValue.{row_of_term, row_or_none, rows_of, multipliers_of, dual_value_of, are_contradictory, leaf_value_of, IsLawfulTerm, AreLawfulTerms, AreBounding, IsLawfulLeaf, Reaches, LeavesReachForms}
-use Rattle.leaf_value.specs.Settings.{Setting, orders_begun, row_named}
+use Rattle.leaf_value.specs.Settings.{Setting, orders_begun, row_named, cut_row_named}
 use Rattle.leaf_value.specs.TreeValue.{IsLawfulNode, AreLawful, IsLeafValue, TreeBoundsAreTrue}
 use Rattle.leaf_value.proofs.BlockedLaws.{end_is_normal, blocked_has_no_form}
 
@@ -58,10 +61,9 @@ normal_later parts word k j order normal =
     ∙ ap (map (λ (t : Timed). t.op)) (drop-drop (j - k) k word ∙ ap (λ (n : ℕ). drop n word) (omega arith)) in
     subst (IsNormal (independence_of parts)) later (end_is_normal (independence_of parts) rest (j - k) normal)
 
--- a row that has a name
-abbrev HasName : Setting → List Entry → RowForm → Type 0
-HasName setting point row =
-    (name : RowName) × IsNamed setting.case.parts setting.case.slots name row × MayBe setting.case.parts point name
+-- a row that is lawful where it is held against the form
+abbrev IsLawful : Setting → List Entry → RowForm → Type 0
+IsLawful setting point = IsLawfulRow setting.case.parts setting.case.slots point
 
 not_ordered : (ordered : Bool) (found : Option RowForm) (row : RowForm) → (if ordered then None else found) ≡ Some row →
     (ordered ≡ false) × (found ≡ Some row)
@@ -69,27 +71,34 @@ not_ordered true found row same = cc
 not_ordered false found row same = (refl, same)
 
 module _ (setting : Setting) (point : List Entry) (sought : IsSought setting.case point) where
-  named_from : (name : RowName) (found : Option RowForm) → row_named setting name ≡ found → is_some found ≡ true → HasName setting point (row_or_none found)
+  named_from : (name : RowName) (found : Option RowForm) → row_named setting name ≡ found → is_some found ≡ true → IsLawful setting point (row_or_none found)
   named_from name None same is = cc
   named_from name (Some row) same is =
-      let free = not_ordered (orders_begun setting.case.begun name) (named_row_of setting.case.parts setting.case.slots name) row same in (
-        name,
-        record { is = free.1 },
-        λ family. normal_later setting.case.parts (word_of point) (begun_count setting.case.begun) (name.a - 1)
-            (behind_last setting.case.begun name free.0 family) sought,
-      )
+      let free = not_ordered (orders_begun setting.case.begun name) (named_row_of setting.case.parts setting.case.slots name) row same in
+      of_name name (record { is = free.1 })
+      (λ family.
+      normal_later setting.case.parts (word_of point) (begun_count setting.case.begun) (name.a - 1)
+      (behind_last setting.case.begun name free.0 family) sought)
 
-  lawful_named : (term : Term) → IsLawfulTerm setting term → HasName setting point (row_of_term setting term)
-  lawful_named (Row name y) lawful = named_from name (row_named setting name) refl lawful.1
-  lawful_named (Cut cut slot op y) lawful = (let none = lawful.2 in cc)
+  cut_from : (slot op : ℕ) (params : Option CutParams) (found : Option RowForm) →
+      option_and_then (λ (cut : CutParams). cut_row_of setting.case.parts setting.case.slots cut slot op) params ≡ found → is_some found ≡ true →
+      IsLawful setting point (row_or_none found)
+  cut_from slot op None None same is = cc
+  cut_from slot op None (Some row) same is = cc
+  cut_from slot op (Some params) None same is = cc
+  cut_from slot op (Some params) (Some row) same is = of_cut params slot op same
 
-  pub all_named : (terms : List Term) → AreLawfulTerms setting terms →
-      AreNamed setting.case.parts setting.case.slots (MayBe setting.case.parts point) (rows_of setting terms)
-  all_named [] lawful = All-nil (HasName setting point)
-  all_named (term ∷ terms) lawful =
-      All-cons (HasName setting point) (row_of_term setting term) (rows_of setting terms)
-      (lawful_named term (All-head (IsLawfulTerm setting) term terms lawful))
-      (all_named terms (All-tail (IsLawfulTerm setting) term terms lawful))
+  lawful_row : (term : Term) → IsLawfulTerm setting term → IsLawful setting point (row_of_term setting term)
+  lawful_row (Row name y) lawful = named_from name (row_named setting name) refl lawful.1
+  lawful_row (Cut cut slot op y) lawful = cut_from slot op (slice_get setting.cuts cut) (cut_row_named setting cut slot op) refl lawful.2
+
+  pub lawful_rows : (terms : List Term) → AreLawfulTerms setting terms →
+      AreLawfulRows setting.case.parts setting.case.slots point (rows_of setting terms)
+  lawful_rows [] lawful = All-nil (IsLawful setting point)
+  lawful_rows (term ∷ terms) lawful =
+      All-cons (IsLawful setting point) (row_of_term setting term) (rows_of setting terms)
+      (lawful_row term (All-head (IsLawfulTerm setting) term terms lawful))
+      (lawful_rows terms (All-tail (IsLawfulTerm setting) term terms lawful))
 
 -- ---- forms
 
@@ -118,13 +127,13 @@ module _ (setting : Setting) (bounds : DualValuesBoundMargins setting.case.parts
   abbrev parts : Parts
   parts = setting.case.parts
 
-  named : (terms : List Term) → AreLawfulTerms setting terms → AreNamed parts (length box) (MayBe parts point) (rows_of setting terms)
-  named terms are = subst (λ (n : ℕ). AreNamed parts n (MayBe parts point) (rows_of setting terms)) (sym sized) (all_named setting point sought terms are)
+  rows_are : (terms : List Term) → AreLawfulTerms setting terms → AreLawfulRows parts (length box) point (rows_of setting terms)
+  rows_are terms are = subst (λ (n : ℕ). AreLawfulRows parts n point (rows_of setting terms)) (sym sized) (lawful_rows setting point sought terms are)
 
   dual_reaches : (q : ℕ) (terms : List Term) → AreBounding setting q terms → Reaches (Some (dual_value_of setting box q terms)) (margin_of parts (word_of point))
   unfolding dual_value_of
   dual_reaches q terms are =
-      let bounded = bounds BySlot box point (rows_of setting terms) (multipliers_of terms) q (form_in setting.case box point there lawful) (named terms are.2) are.0 in
+      let bounded = bounds BySlot box point (rows_of setting terms) (multipliers_of terms) q (form_in setting.case box point there lawful) (rows_are terms are.2) are.0 in
       record {
         value = dual_value_of setting box q terms;
         is = refl;
@@ -138,7 +147,7 @@ module _ (setting : Setting) (bounds : DualValuesBoundMargins setting.case.parts
   unfolding are_contradictory
   void_has_no_form terms are contradictory =
       let below : emptiness_sum (rows_of setting terms) (ranges_of parts box) (multipliers_of terms) <ℤ pos 0 = omega (arith, ints) in
-      empty BySlot box point (rows_of setting terms) (multipliers_of terms) (named terms are) below (form_in setting.case box point there lawful)
+      empty BySlot box point (rows_of setting terms) (multipliers_of terms) (rows_are terms are) below (form_in setting.case box point there lawful)
 
 pub leaves_reach_forms : (setting : Setting) → OnlyPointsArePoints → DualValuesBoundMargins setting.case.parts →
     EmptyBoxesHaveNoForm setting.case.parts → LeavesReachForms setting

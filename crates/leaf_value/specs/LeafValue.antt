@@ -15,7 +15,7 @@ use Rattle.slot_forms.specs.Forms.{word_of, is_lawful_form, IsSought, point_valu
 use Rattle.slot_rows.specs.Objective.{objective_of}
 use Rattle.slot_rows.specs.Ranges.{ranges_of}
 use Rattle.leaf_value.specs.Blocked.{IsBlocked}
-use Rattle.leaf_value.specs.Settings.{Setting, row_named, has_row, has_cut_row}
+use Rattle.leaf_value.specs.Settings.{Setting, row_named, has_row, cut_row_named, has_cut_row}
 
 -- ---- entries
 
@@ -31,7 +31,7 @@ row_or_none (Some row) = row
 -- the row that an entry names
 abbrev pub row_of_term : Setting → Term → RowForm
 row_of_term setting (Row name y) = row_or_none (row_named setting name)
-row_of_term setting (Cut cut slot op y) = no_row
+row_of_term setting (Cut cut slot op y) = row_or_none (cut_row_named setting cut slot op)
 
 -- and its multiplier
 abbrev pub multiplier_of : Term → ℕ
@@ -70,7 +70,7 @@ leaf_value_of setting box Point = point_value setting.case (only_point box)
 
 -- ---- lawful leaves
 
--- an entry names a row that there is, with a multiplier within its limit
+-- an entry names a row that there is, of a name or of a cut, with a multiplier within its limit
 abbrev pub IsLawfulTerm : Setting → Term → Type 0
 IsLawfulTerm setting (Row name y) = (y ≤ MOST_MULTIPLIER) × IsTrue (has_row setting name)
 IsLawfulTerm setting (Cut cut slot op y) =

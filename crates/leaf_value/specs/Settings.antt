@@ -1,6 +1,7 @@
 -- What the value of a leaf depends on besides its box, and which rows there are.
-use Rattle.std.specs.Prelude.{ℕ, Bool, false, ◌&&◌, ◌==◌, nat_le, List, [], length, Option, Some, None, if◌then◌else◌}
-use Rattle.std.specs.Option.{is_some}
+use Rattle.std.specs.Prelude.{ℕ, Bool, false, ◌&&◌, ◌==◌, nat_le, List, [], length, slice_get, Option, Some, None, if◌then◌else◌}
+use Rattle.std.specs.Option.{is_some, option_and_then}
+use Rattle.blend_cuts.specs.CutRows.{cut_row_of}
 use Rattle.linear_form.specs.Rows.{RowForm}
 use Rattle.named_rows.specs.NamedRows.{named_row_of}
 use Rattle.plant_model.specs.declared.parts.Parts.{Parts}
@@ -33,6 +34,12 @@ row_named setting name =
 abbrev pub has_row : Setting → RowName → Bool
 has_row setting name = is_some (row_named setting name)
 
--- the cut of this number has a row for the slot and the operation; so far none has
+-- the row of the cut of this number for a slot and an operation; none where there is no such cut, or it has no such row
+abbrev pub cut_row_named : Setting → ℕ → ℕ → ℕ → Option RowForm
+cut_row_named setting cut slot op =
+    option_and_then (λ (params : CutParams). cut_row_of setting.case.parts setting.case.slots params slot op)
+    (slice_get setting.cuts cut)
+
+-- there is such a row
 abbrev pub has_cut_row : Setting → ℕ → ℕ → ℕ → Bool
-has_cut_row setting cut slot op = false
+has_cut_row setting cut slot op = is_some (cut_row_named setting cut slot op)

@@ -1,8 +1,8 @@
 -- The parts of a split have ranges within those of the box.
-use Rattle.std.proofs.Common.{◌≡◌, ◌≢◌, ℕ, ◌+◌, ◌-◌, ◌^◌, ◌<◌, ◌≤◌, inl, inr, Bool, true, false, List, length, get_or, set, pos, ◌≤ℤ◌, ap, sym, ◌∙◌, refl, subst, arith}
-use Rattle.std.specs.Prelude.{◌==◌, ◌&&◌, nat_lt, nat_le, IsBitSet, IsTrue}
+use Rattle.std.proofs.Common.{◌≡◌, ℕ, ◌-◌, ◌^◌, ◌<◌, ◌≤◌, inl, inr, Bool, true, false, List, length, set, pos, ◌≤ℤ◌, ap, sym, ◌∙◌, refl, subst, arith}
+use Rattle.std.specs.Prelude.{◌==◌, ◌&&◌, nat_lt, IsBitSet}
 use Rattle.std.specs.Int.{bit_at}
-use Rattle.std.proofs.lemmas.Bool.{cases_eq, cases_Bool, eq-eqb, ne_eqb, eqb-true, and_parts}
+use Rattle.std.proofs.lemmas.Bool.{cases_eq, eq-eqb, ne_eqb, eqb-true}
 use Rattle.std.proofs.lemmas.Bool.Decides.{nat_tests}
 use Rattle.std.proofs.lemmas.Int.{ints}
 use Rattle.std.proofs.lemmas.List.{length-set, get_or-set_same, get_or-set_other}
@@ -17,21 +17,19 @@ use Rattle.linear_form.specs.Bounds.{range_of}
 use Rattle.linear_form.specs.Columns.{Extent, IsColumn}
 use Rattle.number_laws.proofs.BitLaws.{one_from_set, set_from_one, set_and, in_or_out, rest_from}
 use Rattle.plant_model.specs.declared.parts.Parts.{Parts}
-use Rattle.plant_model.specs.Parts.{horizon_of}
 use Rattle.row_forms.specs.Columns.{extent_of}
 use Rattle.slot_box.specs.declared.slot.Slot.{Slot}
 use Rattle.slot_box.specs.declared.slot.Span.{Span}
-use Rattle.slot_box.specs.declared.split.Split.{Split}
 use Rattle.slot_box.specs.declared.split.SplitKind.{SplitKind}
 use Rattle.slot_box.specs.declared.split.SplitKind.TheVariants.{Ops, Volume, Start, End}
 use Rattle.slot_box.specs.Boxes.{IsBox, no_slot, slot_at}
-use Rattle.slot_box.specs.Slots.{IsSlot, IsLive, span, has_zeros, live_of, operations_of}
-use Rattle.slot_box.specs.Splits.{IsLawfulSplit, left_half, right_half, left_of, right_of, divides, is_cut_by}
+use Rattle.slot_box.specs.Slots.{IsSlot, span, has_zeros, live_of, operations_of}
+use Rattle.slot_box.specs.Splits.{left_half, right_half, divides, is_cut_by}
 use Rattle.slot_box.proofs.EntryLaws.{zeros_within}
 use Rattle.slot_box.proofs.HalfLaws.{live-left, live-right, IsSlot-left, IsSlot-right}
 use Rattle.slot_box.proofs.LiveLaws.{alone, pow_only, IsLive-from_live_of, live_of-from_IsLive}
 use Rattle.slot_box.proofs.SplitLaws.{divided_from_lawful}
-use Rattle.slot_rows.specs.Ranges.{live_span, bit_of_entry, entry_span, column_span, interval_of, ranges_of}
+use Rattle.slot_rows.specs.Ranges.{live_span, bit_of_entry, entry_span, column_span, ranges_of}
 use Rattle.slot_rows.proofs.FitLaws.{range-at}
 use Rattle.slot_rows.proofs.SpanLaws.{of-slot}
 use Rattle.named_rows.specs.Laws.{PartsHaveNarrowerRanges}

@@ -1,11 +1,9 @@
 -- The objective at the numbers of a form is the margin of its word.
-use Rattle.std.proofs.Common.{◌≡◌, ℕ, zero, suc, ◌+◌, ◌-◌, ◌*◌, ◌<◌, ◌≤◌, inl, inr, Bool, true, false, List, [], ◌∷◌, ◌++◌, map, length, take, get_or, ℤ, pos, neg_ℤ, ◌+ℤ◌, ◌-ℤ◌, ◌*ℤ◌, if◌then◌else◌, ap, sym, ◌∙◌, refl, arith}
-use Rattle.std.specs.Prelude.{◌&&◌, nat_lt}
-use Rattle.std.specs.List.{range_with_len}
+use Rattle.std.proofs.Common.{◌≡◌, ℕ, zero, suc, ◌+◌, ◌-◌, ◌*◌, ◌<◌, ◌≤◌, Bool, true, false, List, [], ◌∷◌, ◌++◌, map, length, take, get_or, ℤ, pos, neg_ℤ, ◌-ℤ◌, ◌*ℤ◌, if◌then◌else◌, ap, sym, ◌∙◌, refl, arith}
 use Rattle.std.proofs.Math.IntN.{zero-*ℤ, *ℤ_comm}
-use Rattle.std.proofs.lemmas.Bool.{cases_lt, lt-ltb, le-ltb}
+use Rattle.std.proofs.lemmas.Bool.{lt-ltb, le-ltb}
 use Rattle.std.proofs.lemmas.Int.{ints}
-use Rattle.std.proofs.lemmas.List.{take_more, take_all, length-map, get_or_append_left, get_or-append-add, get_or-map, get_or_past}
+use Rattle.std.proofs.lemmas.List.{take_more, take_all, length-map, get_or-append-add}
 use Rattle.crude_amounts.specs.Amounts.{weighted_of}
 use Rattle.crude_amounts.proofs.WeightLaws.{weighted_of_more}
 use Rattle.linear_form.specs.Points.{value_at}

@@ -1,6 +1,6 @@
 -- The numbers of a form lie in the ranges of its box.
-use Rattle.std.proofs.Common.{◌≡◌, ◌≢◌, ℕ, zero, suc, ◌+◌, ◌-◌, ◌^◌, ◌<◌, ◌≤◌, ◌⊎◌, inl, inr, Bool, true, false, List, [], ◌∷◌, length, get_or, sum, max, fold, ℤ, pos, ◌≤ℤ◌, if◌then◌else◌, ap, sym, ◌∙◌, refl, subst, arith}
-use Rattle.std.specs.Prelude.{◌==◌, nat_lt, All}
+use Rattle.std.proofs.Common.{◌≡◌, ◌≢◌, ℕ, zero, suc, ◌-◌, ◌^◌, ◌<◌, ◌≤◌, ◌⊎◌, inl, inr, Bool, true, false, List, [], ◌∷◌, length, get_or, sum, max, fold, pos, ◌≤ℤ◌, if◌then◌else◌, ap, sym, ◌∙◌, refl, subst, arith}
+use Rattle.std.specs.Prelude.{◌==◌}
 use Rattle.std.specs.Int.{bit_at}
 use Rattle.std.proofs.lemmas.Bool.{cases_lt, cases_eq, eq-eqb, ne_eqb, lt-ltb, le-ltb}
 use Rattle.std.proofs.lemmas.Int.{ints}
@@ -15,10 +15,10 @@ use Rattle.linear_form.specs.declared.ranges.Interval.{Interval}
 use Rattle.linear_form.specs.Columns.{Extent, HasPart, HasSlot, IsColumn}
 use Rattle.linear_form.specs.Points.{LiesIn as LiesInRanges}
 use Rattle.plant_model.specs.declared.parts.Parts.{Parts}
-use Rattle.plant_model.specs.Parts.{op_count_of, op_of, horizon_of, place_of}
+use Rattle.plant_model.specs.Parts.{op_count_of, horizon_of}
 use Rattle.plant_model.specs.Sound.{SoundPlant}
 use Rattle.replay_core.specs.declared.timed.Timed.{Timed}
-use Rattle.replay_core.specs.Counts.{unloads_from, latest_of, last_end_of}
+use Rattle.replay_core.specs.Counts.{unloads_from, last_end_of}
 use Rattle.replay_core.specs.Margin.{wait_of}
 use Rattle.replay_core.specs.Steps.{no_step, step_at, draw_in}
 use Rattle.row_forms.specs.Columns.{extent_of}
@@ -30,9 +30,9 @@ use Rattle.slot_box.specs.Entries.{Entry, idle, runs, bit_of, LiesIn}
 use Rattle.slot_box.specs.Laws.{EntriesAreLive}
 use Rattle.slot_box.specs.Slots.{span, live_of}
 use Rattle.slot_forms.specs.Forms.{word_of, is_form, is_all_idle, entry_of}
-use Rattle.slot_rows.specs.Ranges.{live_span, bit_of_entry, entry_span, column_span, interval_of, ranges_of}
+use Rattle.slot_rows.specs.Ranges.{live_span, bit_of_entry, entry_span, column_span, ranges_of}
 use Rattle.slot_rows.proofs.FitLaws.{range-at}
-use Rattle.slot_rows.proofs.SpanLaws.{of-slot, of-vessel, bit-operation, bit-idle}
+use Rattle.slot_rows.proofs.SpanLaws.{of-slot, bit-operation, bit-idle}
 use Rattle.word_flows.specs.Runs.{IsRun}
 use Rattle.word_flows.proofs.RunLaws.{runs_are_in_range}
 use Rattle.word_flows.proofs.StepLaws.{runs_draw_volumes}

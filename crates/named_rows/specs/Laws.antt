@@ -1,5 +1,6 @@
--- What rows that have names say of the forms in a box.
-use Rattle.std.specs.Prelude.{◌≡◌, ℕ, ◌-◌, ◌≤◌, pos, ◌≤ℤ◌, ◌<ℤ◌, IsTrue, List, drop, length, All}
+-- What rows say of the forms in a box, those that have names and those of cuts.
+use Rattle.std.specs.Prelude.{◌≡◌, ℕ, ◌-◌, ◌≤◌, pos, ◌≤ℤ◌, ◌<ℤ◌, IsTrue, List, Some, drop, length, All}
+use Rattle.blend_cuts.specs.CutRows.{cut_row_of}
 use Rattle.dual_bound.specs.Conditions.{IsWithin}
 use Rattle.dual_bound.specs.Dual.{dual_value, emptiness_sum}
 use Rattle.linear_form.specs.Points.{LiesIn, value_at}
@@ -10,6 +11,7 @@ use Rattle.replay_core.specs.declared.order.Order.{Order}
 use Rattle.replay_core.specs.Legal.{IsLegalIn}
 use Rattle.replay_core.specs.Margin.{margin_of}
 use Rattle.row_forms.specs.Numbers.{numbers_of}
+use Rattle.slot_box.specs.declared.cut.CutParams.{CutParams}
 use Rattle.slot_box.specs.declared.slot.Slot.{Slot}
 use Rattle.slot_box.specs.declared.term.RowName.{RowName}
 use Rattle.slot_box.specs.declared.split.Split.{Split}
@@ -21,10 +23,6 @@ use Rattle.slot_rows.specs.Objective.{objective_of}
 use Rattle.slot_rows.specs.Ranges.{ranges_of}
 use Rattle.named_rows.specs.NamedRows.{IsNamed}
 
--- each row has a name, of which something is so
-abbrev pub AreNamed : Parts → ℕ → (RowName → Type 0) → List RowForm → Type 0
-AreNamed parts n May rows = All (λ row. (name : RowName) × IsNamed parts n name row × May name) rows
-
 -- a form in the box: a point of it whose word breaks no rule, whatever order is asked for
 pub record IsFormIn (parts : Parts) (order : Order) (box : List Slot) (point : List Entry) : Type 0 where
   pub there : IsPoint box point
@@ -34,6 +32,16 @@ pub record IsFormIn (parts : Parts) (order : Order) (box : List Slot) (point : L
 -- the name is not one of normal order, unless the word is normal from its slot on
 abbrev pub MayBe : Parts → List Entry → RowName → Type 0
 MayBe parts point name = name.family ≡ 13 → IsNormalWord parts (drop (name.a - 1) (word_of point))
+
+-- the row is lawful over forms of n slots, where it is held against this one: it has a name, which may be; or it is the
+-- row of a valid cut, for a slot and an operation
+pub data IsLawfulRow (parts : Parts) (n : ℕ) (point : List Entry) (row : RowForm) : Type 0 where
+  of_name : (name : RowName) → IsNamed parts n name row → MayBe parts point name → IsLawfulRow parts n point row
+  of_cut : (cut : CutParams) (slot op : ℕ) → cut_row_of parts n cut slot op ≡ Some row → IsLawfulRow parts n point row
+
+-- each row is
+abbrev pub AreLawfulRows : Parts → ℕ → List Entry → List RowForm → Type 0
+AreLawfulRows parts n point rows = All (IsLawfulRow parts n point) rows
 
 -- the numbers of a form in a box lie in the ranges of the box
 abbrev pub FormsLieInRanges : Parts → Type 0
@@ -47,20 +55,20 @@ ObjectivesAreMargins parts =
     (order : Order) (box : List Slot) (point : List Entry) → IsFormIn parts order box point →
     value_at (objective_of parts (length box)) (numbers_of parts (word_of point)) ≡ margin_of parts (word_of point)
 
--- no form in a box has a margin above the dual value of named rows over the box, whatever their multipliers; rows of
+-- no form in a box has a margin above the dual value of lawful rows over the box, whatever their multipliers; rows of
 -- normal order bound normal words alone
 abbrev pub DualValuesBoundMargins : Parts → Type 0
 DualValuesBoundMargins parts =
     (order : Order) (box : List Slot) (point : List Entry) (rows : List RowForm) (multipliers : List ℕ) (q : ℕ) →
-    IsFormIn parts order box point → AreNamed parts (length box) (MayBe parts point) rows → 1 ≤ q →
+    IsFormIn parts order box point → AreLawfulRows parts (length box) point rows → 1 ≤ q →
     margin_of parts (word_of point)
     ≤ℤ dual_value rows (ranges_of parts box) (objective_of parts (length box)) multipliers q
 
--- a box whose emptiness sum by named rows is below 0 has no form
+-- a box whose emptiness sum by lawful rows is below 0 has no form
 abbrev pub EmptyBoxesHaveNoForm : Parts → Type 0
 EmptyBoxesHaveNoForm parts =
     (order : Order) (box : List Slot) (point : List Entry) (rows : List RowForm) (multipliers : List ℕ) →
-    AreNamed parts (length box) (MayBe parts point) rows →
+    AreLawfulRows parts (length box) point rows →
     emptiness_sum rows (ranges_of parts box) multipliers <ℤ pos 0 → IsFormIn parts order box point → ⊥
 
 -- the parts of a lawful split have ranges within those of the box

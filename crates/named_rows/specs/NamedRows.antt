@@ -1,5 +1,5 @@
 -- Rows by name, of whichever family: on slots and operations, or on places and crudes.
-use Rattle.std.specs.Prelude.{◌≡◌, ℕ, List, Option, Some, None}
+use Rattle.std.specs.Prelude.{◌≡◌, ℕ, Option, Some, None}
 use Rattle.linear_form.specs.Rows.{RowForm}
 use Rattle.overlap_graph.specs.Cliques.{cliques_of}
 use Rattle.plant_model.specs.declared.parts.Parts.{Parts}

@@ -1,5 +1,6 @@
 ghost use Rattle.named_rows.specs.Laws.{FormsLieInRanges, ObjectivesAreMargins, DualValuesBoundMargins, EmptyBoxesHaveNoForm, PartsHaveNarrowerRanges};
 
+use blend_cuts::cut_row_laws;
 use overlap_graph::clique_laws;
 use plant_model::Plant;
 use row_forms::row_form_laws;
@@ -7,7 +8,7 @@ use slot_box::box_laws;
 use slot_rows::slot_row_laws;
 use tank_rows::tank_row_laws;
 
-/// What rows that have names say of the forms in a box: a call does nothing and brings the laws.
+/// What rows, named ones and those of cuts, say of the forms in a box: a call does nothing and brings the laws.
 pub fn named_row_laws(plant: &Plant)
     ensures ranges { FormsLieInRanges plant.now }
     ensures objective { ObjectivesAreMargins plant.now }
@@ -21,4 +22,5 @@ pub fn named_row_laws(plant: &Plant)
     row_form_laws(plant);
     slot_row_laws(plant);
     tank_row_laws(plant);
+    cut_row_laws(plant);
 }

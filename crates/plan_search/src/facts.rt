@@ -57,6 +57,8 @@ pub(crate) struct Facts {
     pub margins: Vec<i64>,
     /// The most that a volume unit earns or costs, and 1 at least.
     pub greatest_gain: u64,
+    /// What all crude would earn if each volume unit earned the most.
+    pub greatest_margin: u64,
     /// In volume units for each 1440 minutes.
     pub greatest_rate: u32,
 }
@@ -65,12 +67,15 @@ impl Facts {
     pub(crate) fn new(alloc: Global, plant: &Plant) -> Result<Facts, AllocError> {
         let ops = ops_of(alloc, plant)?;
         let margins = margins_of(alloc, plant)?;
+        let places = places_of(alloc, plant)?;
+        let greatest_gain = greatest_gain_of(margins.as_slice());
         Ok(Facts {
             horizon: plant.horizon(),
-            places: places_of(alloc, plant)?,
             properties: properties_of(alloc, plant)?,
-            greatest_gain: greatest_gain_of(margins.as_slice()),
+            greatest_gain,
+            greatest_margin: greatest_gain.saturating_mul(crude_of(places.as_slice())),
             greatest_rate: greatest_rate_of(ops.as_slice()),
+            places,
             ops,
             margins,
         })
@@ -207,6 +212,15 @@ fn greatest_gain_of(margins: &[i64]) -> u64 {
         greatest = greatest.max(margin.unsigned_abs());
     }
     greatest
+}
+
+/// All crude at first, in volume units.
+fn crude_of(places: &[PlaceFacts]) -> u64 {
+    let mut crude = 0u64;
+    for place in places {
+        crude = crude.saturating_add(place.first.total());
+    }
+    crude
 }
 
 fn greatest_rate_of(ops: &[OpFacts]) -> u32 {

@@ -82,6 +82,8 @@ pub(crate) struct Wishes {
     pub random: Random,
     /// The most items that the list may have.
     most: usize,
+    /// As much as can be moved is wanted of what is put in.
+    whole: bool,
 }
 
 /// One of the changes, each as often as its weight says.
@@ -135,6 +137,16 @@ impl Wishes {
             items,
             random,
             most,
+            whole: false,
+        }
+    }
+
+    /// A volume that is wanted of what is put in.
+    fn new_volume(&mut self) -> u32 {
+        if self.whole {
+            ALL
+        } else {
+            chance_volume(&mut self.random)
         }
     }
 
@@ -162,7 +174,7 @@ impl Wishes {
     /// Puts two operations in, the second somewhere behind the first.
     fn insert_pair(&mut self, first: u8, second: u8) -> Result<(), AllocError> {
         let at = self.random.below(self.items.len() + 1);
-        let wanted = chance_volume(&mut self.random);
+        let wanted = self.new_volume();
         self.insert(at, first, wanted)?;
         let behind = self.random.below(self.items.len().saturating_sub(at));
         self.insert(at.saturating_add(behind).saturating_add(1), second, ALL)
@@ -182,7 +194,7 @@ impl Wishes {
     fn put_in(&mut self, facts: &Facts) -> Result<bool, AllocError> {
         self.make_room(1);
         let op = self.any_op(facts);
-        let wanted = chance_volume(&mut self.random);
+        let wanted = self.new_volume();
         self.insert_anywhere(op, wanted)?;
         Ok(true)
     }
@@ -190,7 +202,7 @@ impl Wishes {
     fn replace(&mut self, facts: &Facts) -> bool {
         let at = self.any_place();
         let op = self.any_op(facts);
-        let wanted = chance_volume(&mut self.random);
+        let wanted = self.new_volume();
         if let Some(item) = self.items.get_mut(at) {
             *item = Item { op, wanted };
         }
@@ -221,6 +233,41 @@ impl Wishes {
         if let Some(item) = self.items.get_mut(at) {
             item.wanted = wanted;
         }
+    }
+
+    /// The last item before that place that is the same operation.
+    fn same_before(&self, at: usize, op: u8) -> Option<usize> {
+        let earlier = self.items.iter().take(at);
+        let mut found = None;
+        for (j, item) in earlier.enumerate() {
+            if item.op == op {
+                found = Some(j);
+            }
+        }
+        found
+    }
+
+    /// Leaves an item out.
+    pub(crate) fn leave_out(&mut self, at: usize) -> bool {
+        if at >= self.items.len() {
+            return false;
+        }
+        self.items.remove(at);
+        true
+    }
+
+    /// Leaves an item out, and wants its volume of the last one before it that is the same operation. Answers whether
+    /// there is one.
+    pub(crate) fn join(&mut self, at: usize, current: &Decoded) -> bool {
+        let Some(run) = current.runs.get(at) else {
+            return false;
+        };
+        let Some(j) = self.same_before(at, run.item.op) else {
+            return false;
+        };
+        let volume = current.runs.get(j).map_or(0, |before| before.volume);
+        self.want(j, volume.saturating_add(run.volume));
+        self.leave_out(at)
     }
 
     fn set_op(&mut self, at: usize, op: u8) {
@@ -412,6 +459,7 @@ impl Wishes {
         current: &Decoded,
         whole: bool,
     ) -> Result<bool, AllocError> {
+        self.whole = whole;
         match self.chosen_move(whole) {
             Move::Insert => self.put_in(facts),
             Move::Replace => Ok(self.replace(facts)),

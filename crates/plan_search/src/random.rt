@@ -8,6 +8,9 @@ use rand_pcg::Pcg32;
 /// The stream of the numbers that are drawn.
 const STREAM: u64 = 1;
 
+/// How often chance says no at most.
+const MOST_REFUSALS: u32 = 12;
+
 /// A source of choices.
 #[derive(Drop)]
 pub(crate) struct Random {
@@ -44,6 +47,16 @@ impl Random {
     /// Once in so many times.
     pub(crate) fn once_in(&mut self, times: usize) -> bool {
         self.below(times) == 0
+    }
+
+    /// How often chance says no before it says yes, each half the time; no more than a limit.
+    pub(crate) fn refusals(&mut self) -> u32 {
+        for refused in 0..MOST_REFUSALS {
+            if self.once_in(2) {
+                return refused;
+            }
+        }
+        MOST_REFUSALS
     }
 
     /// One of the items, where there is one.

@@ -6,6 +6,7 @@ use crate::decoded::{ALL, Decoded, Item};
 use crate::decoding::Decoder;
 use crate::facts::Facts;
 use crate::moves::Wishes;
+use crate::numbers::product;
 use crate::random::Random;
 use crate::repair::repair;
 use limits::MOST_SLOTS;
@@ -20,8 +21,27 @@ const RUNS: u32 = 4;
 /// The part of the work that is left for the last run, of a hundred.
 const LAST_PART: u32 = 40;
 
+/// The first run in which a list may become worse.
+const FIRST_LENIENT: u32 = 2;
+
+/// The least loss that is let pass, at the beginning, is that part of what all crude might earn.
+const LOSS_PART: i128 = 256;
+
 /// How often a list is repaired.
 const REPAIRS: u32 = 2;
+
+/// A part of the search, in which one list is changed over and over.
+#[derive(Clone, Copy)]
+struct Stage {
+    /// How much work has been done before.
+    from: u32,
+    /// How much work has been done when it ends.
+    limit: u32,
+    /// As much as can be moved is always wanted.
+    whole: bool,
+    /// The list may become worse, less and less.
+    lenient: bool,
+}
 
 /// What a search has come to.
 #[derive(Drop)]
@@ -110,57 +130,114 @@ impl Search {
         Ok(())
     }
 
-    fn step(&mut self, whole: bool) -> Result<(), AllocError> {
+    /// By how much the list may become worse now: mostly not at all, seldom by much, and ever less towards the end.
+    fn loss(&mut self, stage: Stage) -> i128 {
+        if !stage.lenient {
+            return 0;
+        }
+        let refusals = self.wishes.random.refusals();
+        let left = product(refusals, stage.limit.saturating_sub(self.spent));
+        let work = i128::from(stage.limit.saturating_sub(stage.from));
+        i128::from(self.facts.greatest_margin)
+            .saturating_mul(left.into())
+            .checked_div(work.saturating_mul(LOSS_PART))
+            .unwrap_or(0)
+    }
+
+    fn step(&mut self, stage: Stage) -> Result<(), AllocError> {
         self.spent = self.spent.saturating_add(1);
         self.current.copy_items(self.most, &mut self.wishes.items)?;
-        if !self.wishes.change(&self.facts, &self.current, whole)? {
+        if !self.wishes.change(&self.facts, &self.current, stage.whole)? {
             return Ok(());
         }
         self.decode()?;
         self.repair()?;
-        if self.trial.score >= self.current.score {
+        let loss = self.loss(stage);
+        if self.trial.score.saturating_add(loss) >= self.current.score {
             self.accept()?;
         }
         Ok(())
     }
 
     /// Changes the list until so much work has been done.
-    fn climb(&mut self, limit: u32, whole: bool) -> Result<(), AllocError> {
-        for _ in 0..limit {
-            if self.spent >= limit {
+    fn climb(&mut self, stage: Stage) -> Result<(), AllocError> {
+        for _ in 0..stage.limit {
+            if self.spent >= stage.limit {
                 return Ok(());
             }
-            self.step(whole)?;
+            self.step(stage)?;
         }
         Ok(())
     }
 
     /// Begins with the operations, and changes the list until so much work has been done.
-    fn run(&mut self, ops: &[u8], limit: u32, whole: bool) -> Result<(), AllocError> {
+    fn run(&mut self, ops: &[u8], stage: Stage) -> Result<(), AllocError> {
         self.wish_for(ops)?;
         self.begin()?;
-        self.climb(limit, whole)
+        self.climb(stage)
     }
 
     /// Goes on from the best list.
     fn finish(&mut self, work: u32) -> Result<(), AllocError> {
         self.best.copy_items(self.most, &mut self.wishes.items)?;
         self.begin()?;
-        self.climb(work, false)
+        self.climb(Stage {
+            from: self.spent,
+            limit: work,
+            whole: false,
+            lenient: false,
+        })
+    }
+
+    /// Takes the changed wishes, where they are no worse and legal.
+    fn tidy(&mut self, changed: bool) -> Result<(), AllocError> {
+        if !changed {
+            return Ok(());
+        }
+        self.decode()?;
+        if self.trial.is_legal() && self.trial.score >= self.current.score {
+            self.accept()?;
+        }
+        Ok(())
+    }
+
+    /// Leaves an operation out, or joins it to the same one before it, where nothing is lost by it.
+    fn tidy_at(&mut self, at: usize) -> Result<(), AllocError> {
+        self.current.copy_items(self.most, &mut self.wishes.items)?;
+        let left_out = self.wishes.leave_out(at);
+        self.tidy(left_out)?;
+        self.current.copy_items(self.most, &mut self.wishes.items)?;
+        let joined = self.wishes.join(at, &self.current);
+        self.tidy(joined)
+    }
+
+    /// Leaves out of the best list what it does as well without.
+    fn tidy_best(&mut self) -> Result<(), AllocError> {
+        if !self.best.is_legal() {
+            return Ok(());
+        }
+        self.current.copy_from(&self.best)?;
+        for at in (0..self.most).rev() {
+            self.tidy_at(at)?;
+        }
+        self.best.copy_from(&self.current)
     }
 
     /// Runs from the hint and from all operations in turn, and then from the best.
     fn search(&mut self, hint: &[u8], all: &[u8], work: u32) -> Result<(), AllocError> {
         let part = work / 100 * (100 - LAST_PART) / RUNS;
         for k in 0..RUNS {
-            let limit = part * (k + 1);
-            if k % 2 == 0 {
-                self.run(hint, limit, false)?;
-            } else {
-                self.run(all, limit, true)?;
-            }
+            let whole = k % 2 == 1;
+            let stage = Stage {
+                from: part * k,
+                limit: part * (k + 1),
+                whole,
+                lenient: k >= FIRST_LENIENT,
+            };
+            self.run(if whole { all } else { hint }, stage)?;
         }
-        self.finish(work)
+        self.finish(work)?;
+        self.tidy_best()
     }
 }
 

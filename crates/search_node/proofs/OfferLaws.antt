@@ -1,21 +1,19 @@
 -- What plans earn may be offered.
-use Rattle.std.proofs.Common.{◌≡◌, ℕ, zero, suc, ◌+◌, ◌-◌, ◌*◌, ◌^◌, ◌<◌, ◌≤◌, max, Bool, true, false, ℤ, pos, negsuc, neg_ℤ, ◌+ℤ◌, ◌-ℤ◌, ◌≤ℤ◌, unsigned_abs, if◌then◌else◌, List, [], ◌∷◌, length, sym, subst, arith}
+use Rattle.std.proofs.Common.{◌≡◌, ℕ, zero, suc, ◌+◌, ◌*◌, ◌<◌, ◌≤◌, max, Bool, true, false, ℤ, pos, negsuc, neg_ℤ, ◌-ℤ◌, ◌≤ℤ◌, unsigned_abs, if◌then◌else◌, List, [], ◌∷◌, length, sym, subst, arith}
 use Rattle.std.specs.Prelude.{All, fold}
 use native.Mathlib.Nat.{mul-le-mul}
 use Rattle.std.proofs.lemmas.Int.{ints}
 use Rattle.std.proofs.lemmas.List.Elements.{All-head, All-tail, All-weaker}
-use Rattle.limits.specs.declared.TheConstants.{MOST_DEMURRAGE, MOST_HORIZON, MOST_OFFER, MOST_PLACES, MOST_SLOTS}
+use Rattle.limits.specs.declared.TheConstants.{MOST_DEMURRAGE, MOST_HORIZON, MOST_OFFER}
 use Rattle.number_laws.specs.Sums.{sum_below}
 use Rattle.number_laws.proofs.SumLaws.{sum_below-suc}
-use Rattle.plan_build.specs.Built.{IsPlanned}
 use Rattle.plant_model.specs.declared.parts.Parts.{Parts}
-use Rattle.plant_model.specs.Parts.{horizon_of, op_of, place_count_of, place_of}
+use Rattle.plant_model.specs.Parts.{place_count_of, place_of}
 use Rattle.plant_model.specs.Sound.{SoundPlant}
 use Rattle.replay_core.specs.declared.order.Order.TheVariants.{ByStart}
-use Rattle.replay_core.specs.declared.planned.Planned.{Planned}
 use Rattle.replay_core.specs.declared.timed.Timed.{Timed}
-use Rattle.replay_core.specs.Counts.{last_end_of, latest_of, unloads_from}
-use Rattle.replay_core.specs.Legal.{IsInRange, IsLegalIn, StepsAreInRange}
+use Rattle.replay_core.specs.Counts.{last_end_of, unloads_from}
+use Rattle.replay_core.specs.Legal.{IsInRange, StepsAreInRange}
 use Rattle.replay_core.specs.Margin.{demurrage_of, earned_of, margin_of, wait_of}
 use Rattle.replay_core.proofs.MarginLaws.{earns_within-accepted}
 use Rattle.replay_core.proofs.StepLaws.{CanRun-legal}

@@ -1,6 +1,6 @@
 -- What entries are worth over the parts of a box.
-use Rattle.std.proofs.Common.{◌≡◌, ℕ, ◌≤◌, Bool, true, ℤ, ◌≤ℤ◌, List, [], ◌∷◌, length, refl, sym, ap, subst, arith}
-use Rattle.std.specs.Prelude.{All, filter}
+use Rattle.std.proofs.Common.{◌≡◌, ℕ, ◌≤◌, Bool, true, ◌≤ℤ◌, List, [], ◌∷◌, refl, arith}
+use Rattle.std.specs.Prelude.{filter}
 use Rattle.std.proofs.lemmas.List.Elements.{All-head, All-tail}
 use Rattle.dual_bound.specs.Conditions.{IsWithin}
 use Rattle.dual_bound.proofs.DualLaws.{value-bounds_narrower}
@@ -13,10 +13,10 @@ use Rattle.slot_box.specs.declared.term.Term.TheVariants.{Row, Cut}
 use Rattle.slot_box.specs.Splits.{left_of, right_of}
 use Rattle.slot_rows.specs.Objective.{objective_of}
 use Rattle.slot_rows.specs.Ranges.{ranges_of}
-use Rattle.leaf_value.specs.LeafValue.{AreLawfulTerms, IsLawfulTerm, dual_value_of, multipliers_of, rows_of}
+use Rattle.leaf_value.specs.LeafValue.{IsLawfulTerm, dual_value_of, multipliers_of, rows_of}
 use Rattle.leaf_value.specs.Settings.{Setting, plain_setting}
 use Rattle.search_node.specs.Laws.{LawfulEntriesAreThere, PartsAreBelowTheWhole}
-use Rattle.search_node.specs.Values.{entries_there, is_there}
+use Rattle.search_node.specs.Values.{is_there}
 
 -- ---- entries
 

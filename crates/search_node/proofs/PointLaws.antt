@@ -1,12 +1,16 @@
 -- What becomes of a box of one point.
-use Rattle.std.proofs.Common.{◌≡◌, ℕ, ◌≤◌, ◌^◌, inl, true, ℤ, Option, Some, None, List, [], ◌∷◌, length, refl, sym, arith}
-use Rattle.std.specs.Prelude.{All, IfSome, option_map}
+use Rattle.std.proofs.Common.{◌≡◌, ℕ, ◌<◌, ◌≤◌, ◌^◌, inl, true, ℤ, Option, Some, None, List, [], ◌∷◌, length, refl, sym, arith}
+use Rattle.std.specs.Prelude.{All, IfSome, option_map, slice_get}
+use Rattle.std.specs.Option.{is_some, option_and_then}
 use Rattle.std.proofs.Math.Nat.{pow-le-pow_right}
 use Rattle.std.proofs.lemmas.List.Elements.{All-cons, All-filter, All-head, All-nil, All-tail, filter_passes}
+use Rattle.std.proofs.lemmas.Option.{slice_get_within}
+use Rattle.blend_cuts.specs.CutRows.{cut_row_of}
 use Rattle.limits.specs.declared.TheConstants.{MOST_MULTIPLIER}
 use Rattle.plan_build.specs.Built.{IsPlanned}
 use Rattle.plant_model.specs.declared.parts.Parts.{Parts}
 use Rattle.replay_core.specs.declared.planned.Planned.{Planned}
+use Rattle.slot_box.specs.declared.cut.CutParams.{CutParams}
 use Rattle.slot_box.specs.declared.node.Leaf.TheVariants.{Point}
 use Rattle.slot_box.specs.declared.term.Term.{Term}
 use Rattle.slot_box.specs.declared.term.Term.TheVariants.{Row, Cut}
@@ -16,7 +20,7 @@ use Rattle.slot_forms.specs.Cases.{plain}
 use Rattle.slot_forms.specs.Forms.{point_value, word_of}
 use Rattle.slot_words.specs.ByStart.{IsByStart}
 use Rattle.leaf_value.specs.LeafValue.{AreBounding, AreLawfulTerms, IsLawfulTerm}
-use Rattle.leaf_value.specs.Settings.{Setting, plain_setting}
+use Rattle.leaf_value.specs.Settings.{Setting, has_cut_row, plain_setting}
 use Rattle.search_node.specs.declared.looked.Examined.TheVariants.{Closed}
 use Rattle.search_node.specs.Laws.{IsUnblocked, PointsAreBelowDuals, PointsAreTold}
 use Rattle.search_node.specs.Looks.{ClosesBox, GivesPlanOfPoint, IsLook, IsPlanOfPoint}
@@ -24,6 +28,16 @@ use Rattle.leaf_value.specs.PlainGuesses.{IsPlainGuess, IsSmallPower}
 use Rattle.search_node.specs.Values.{IsValueFor, entries_there, is_there}
 
 -- ---- the entries that a value is compared with are lawful
+
+-- a cut that has a row is there
+cut-there : (setting : Setting) (cut slot op : ℕ) → has_cut_row setting cut slot op ≡ true → cut < length setting.cuts
+cut-there setting cut slot op has = found_at (slice_get setting.cuts cut) refl has
+  where
+    found_at : (found : Option CutParams) → slice_get setting.cuts cut ≡ found →
+        is_some (option_and_then (λ (params : CutParams). cut_row_of setting.case.parts setting.case.slots params slot op) found) ≡ true →
+        cut < length setting.cuts
+    found_at None same is = cc
+    found_at (Some params) same is = slice_get_within setting.cuts cut params same
 
 there-lawful : (setting : Setting) (entries : List Term) → All HasSmallMultiplier entries → All (λ term. is_there setting term ≡ true) entries →
     AreLawfulTerms setting entries
@@ -33,7 +47,11 @@ there-lawful setting (Row name y ∷ entries) small there =
     (All-head HasSmallMultiplier (Row name y) entries small, All-head (λ term. is_there setting term ≡ true) (Row name y) entries there)
     (there-lawful setting entries (All-tail HasSmallMultiplier (Row name y) entries small) (All-tail (λ term. is_there setting term ≡ true) (Row name y) entries there))
 there-lawful setting (Cut cut slot op y ∷ entries) small there =
-    let none = All-head (λ term. is_there setting term ≡ true) (Cut cut slot op y) entries there in cc
+    let has = All-head (λ term. is_there setting term ≡ true) (Cut cut slot op y) entries there in
+    All-cons (IsLawfulTerm setting) (Cut cut slot op y) entries
+    (All-head HasSmallMultiplier (Cut cut slot op y) entries small, cut-there setting cut slot op has, has)
+    (there-lawful setting entries (All-tail HasSmallMultiplier (Cut cut slot op y) entries small)
+    (All-tail (λ term. is_there setting term ≡ true) (Cut cut slot op y) entries there))
 
 warm-bounding : (setting : Setting) (task : TaskParts) → IsTask task → AreBounding setting task.q (entries_there setting task.entries)
 warm-bounding setting task is = (

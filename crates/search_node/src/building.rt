@@ -15,11 +15,14 @@ use replay_core::Planned;
 use slot_box::SlotBox;
 use std::alloc::{AllocError, Global};
 
-/// The boxes of nodes with numbers below this one get plans of their own.
+/// Only boxes of nodes with numbers below this one get plans of their own.
 const BUILT_NODES: u32 = 512;
 
-/// How many operations are decoded for the plan of a box.
-const BOX_WORK: u32 = 5_000;
+/// Of so many of them one, since one long search finds more than many short ones.
+const NODES_OF_A_PLAN: u32 = 8;
+
+/// How many operations are decoded for the plan of a box, for each slot.
+const SLOT_WORK: u32 = 8_000;
 
 /// The set of all operations among the entries of a slot, which has bit 63 for idle.
 const OPERATIONS: u64 = u64::MAX >> 1;
@@ -88,7 +91,7 @@ fn add_every_operation(plant: &Plant, mut ops: Vec<u8>) -> Result<Vec<u8>, Alloc
     Ok(ops)
 }
 
-/// A plan that is looked for from operations that are live in the box of a node, where it is one of the first nodes.
+/// A plan that is looked for from operations that are live in the box of a node, where it is one of the nodes that get one.
 pub(crate) fn plan_of_box(
     alloc: Global,
     plant: &Plant,
@@ -99,12 +102,12 @@ pub(crate) fn plan_of_box(
     requires { n ≤ MOST_SLOTS }
     ensures { IfOk result (λ found. IfSome found (IsPlanned plant.now n)) }
 {
-    if id >= BUILT_NODES {
+    if id >= BUILT_NODES || id % NODES_OF_A_PLAN + 1 < NODES_OF_A_PLAN {
         return Ok(None);
     }
     let live = live_operations(alloc, plant, bx, id)?;
     let hint = Hint {
         ops: Copies::from_vec(add_every_operation(plant, live)?),
     };
-    build_within(alloc, plant, n, &hint, BOX_WORK)
+    build_within(alloc, plant, n, &hint, SLOT_WORK.saturating_mul(n))
 }

@@ -12,22 +12,20 @@ ghost use Rattle.leaf_value.specs.Settings.{plain_setting};
 ghost use Rattle.slot_box.specs.Even.{IsEvenSplit};
 ghost use Rattle.search_node.specs.Laws.{IsUnblocked};
 ghost use Rattle.search_node.specs.Looks.{Beats, IsExamined, IsLook, IsTaskOf};
-ghost use Rattle.search_node.specs.Tables.{IsBlockOf, IsTableOf};
+ghost use Rattle.search_node.specs.Tables.{IsTableOf};
 ghost use Rattle.search_node.specs.declared.looked.Examined.TheVariants as answers;
 ghost use Rattle.search_node.specs.Values.{least_value, warm_value};
 ghost use Rattle.search_node.specs.inside.Answers.{IsNotDead, IsNotPoint};
-ghost use Rattle.search_node.specs.inside.Candidates.{IsCandidate, IsNoWorse, Reaches};
+ghost use Rattle.search_node.specs.inside.Candidates.{IsCandidate, Reaches};
 ghost use Rattle.search_node.specs.inside.Plain.{ReachesPlainGuesses};
 ghost use Rattle.search_node.specs.inside.Weighings.{IsWhole, setting_of};
 
-use crate::block::RowBlock;
 use crate::blocked::first_blocked;
 use crate::building::plan_of_box;
 use crate::guesses::Candidate;
 use crate::laws::value_laws;
 use crate::looked::{Examined, Looked};
 use crate::plain::lesser_of_plain;
-use crate::rows_taken::RowClass;
 use crate::simplex::lesser_of_rows;
 use crate::splits::even_split;
 use crate::table::RowTable;
@@ -46,8 +44,8 @@ use std::alloc::{AllocError, Global};
 /// The nodes with numbers below this one, the root and its parts, get all pivots that the simplex may take.
 const FULL_NODES: u32 = 3;
 
-/// What the others get for each of their programs: they begin with the entries of their parents.
-const FEW_PIVOTS: u32 = 60;
+/// What the others get: they begin with the entries of their parents.
+const FEW_PIVOTS: u32 = 100;
 
 /// Whether a value beats the best margin that was seen.
 fn beats(value: i128, seen: Option<i64>) -> bool
@@ -73,55 +71,8 @@ fn is_settled(found: &Candidate, seen: Option<i64>) -> bool {
     found.is_empty || !beats(found.value, seen)
 }
 
-/// The better of a candidate and what the simplex makes of some rows, unless the box is settled.
-fn lesser_unless_settled(
-    alloc: Global,
-    weighing: &Weighing,
-    first: &RowBlock,
-    classes: &[RowClass],
-    seen: Option<i64>,
-    best: Candidate,
-) -> Result<Candidate, AllocError>
-    requires whole { IsWhole weighing.now }
-    requires first { IsBlockOf weighing.now.plant.now (length weighing.now.bx.now) first.now }
-    requires best { IsCandidate (setting_of weighing.now) weighing.now.bx.now best }
-    ensures candidate { IfOk result (IsCandidate (setting_of weighing.now) weighing.now.bx.now) }
-    ensures best { IfOk result (IsNoWorse best) }
-{
-    if is_settled(&best, seen) {
-        return Ok(best);
-    }
-    lesser_of_rows(alloc, weighing, first, classes, best)
-}
-
-/// The best of a candidate and what the simplex makes of more and more rows, until the box is settled.
-fn lesser_of_programs(
-    alloc: Global,
-    weighing: &Weighing,
-    first: &RowBlock,
-    seen: Option<i64>,
-    best: Candidate,
-) -> Result<Candidate, AllocError>
-    requires whole { IsWhole weighing.now }
-    requires first { IsBlockOf weighing.now.plant.now (length weighing.now.bx.now) first.now }
-    requires best { IsCandidate (setting_of weighing.now) weighing.now.bx.now best }
-    ensures candidate { IfOk result (IsCandidate (setting_of weighing.now) weighing.now.bx.now) }
-    ensures best { IfOk result (IsNoWorse best) }
-{
-    let (whole, coarse) = (RowClass::Whole, RowClass::Coarse);
-    let best = lesser_unless_settled(alloc, weighing, first, &[whole], seen, best)?;
-    let best = lesser_unless_settled(alloc, weighing, first, &[whole, coarse], seen, best)?;
-    let all = [whole, coarse, RowClass::Fine, RowClass::Rare];
-    lesser_unless_settled(alloc, weighing, first, &all, seen, best)
-}
-
 /// The best entries that are found for a task's box.
-fn weigh(
-    alloc: Global,
-    weighing: &Weighing,
-    task: &Task,
-    seen: Option<i64>,
-) -> Result<Candidate, AllocError>
+fn weigh(alloc: Global, weighing: &Weighing, task: &Task) -> Result<Candidate, AllocError>
     requires whole { IsWhole weighing.now }
     requires same { weighing.now.bx.now ≡ task.now.box }
     ensures candidate { IfOk result (IsCandidate (setting_of weighing.now) weighing.now.bx.now) }
@@ -134,7 +85,10 @@ fn weigh(
         return Ok(best);
     }
     let best = lesser_of_plain(alloc, weighing, best)?;
-    lesser_of_programs(alloc, weighing, &warm.block, seen, best)
+    if is_settled(&best, weighing.enough) {
+        return Ok(best);
+    }
+    lesser_of_rows(alloc, weighing, &warm.block, best)
 }
 
 /// The value of entries that do not show the box empty, which is told.
@@ -260,8 +214,9 @@ fn look_at_box(
         bx,
         ranges: &ranges,
         pivots: pivots_of(task.id()),
+        enough: seen,
     };
-    let found = weigh(alloc, &weighing, task, seen)?;
+    let found = weigh(alloc, &weighing, task)?;
     let what = settle(&weighing, task, seen, split, found);
     let found = match &what {
         Examined::Closed { .. } => None,

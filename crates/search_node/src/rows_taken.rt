@@ -35,6 +35,22 @@ pub(crate) enum RowClass {
     Rare,
 }
 
+/// In this order they are taken.
+const CLASSES: [RowClass; 4] = [
+    RowClass::Whole,
+    RowClass::Coarse,
+    RowClass::Fine,
+    RowClass::Rare,
+];
+
+/// Rows that are taken, stage by stage.
+#[derive(Drop)]
+pub(crate) struct TakenRows {
+    pub block: RowBlock,
+    /// How many of them each stage and those before it have.
+    pub stages: Vec<usize>,
+}
+
 /// Whether the operation of this number, if there is one, charges a unit that has to be charged at every minute.
 fn is_steady_charge(plant: &Plant, op: u16) -> bool {
     if op >= plant.op_count().into() {
@@ -212,21 +228,23 @@ fn take_first(
     Ok(())
 }
 
-/// The rows with which a task begins, and after them those of the table of these classes.
+/// The rows with which a task begins, and after them those of the table, class by class.
 pub(crate) fn take_rows(
     alloc: Global,
     weighing: &Weighing,
     first: &RowBlock,
-    classes: &[RowClass],
-) -> Result<RowBlock, AllocError>
+) -> Result<TakenRows, AllocError>
     requires whole { IsWhole weighing.now }
     requires first { IsBlockOf weighing.now.plant.now (length weighing.now.bx.now) first.now }
-    ensures { IfOk result (IsBlockOf weighing.now.plant.now (length weighing.now.bx.now)) }
+    ensures { IfOk result (λ taken. IsBlockOf weighing.now.plant.now (length weighing.now.bx.now) taken.block) }
 {
-    let mut taken = RowBlock::new(alloc);
-    take_first(alloc, weighing, first, &mut taken)?;
-    for class in classes {
-        take_class(alloc, weighing, *class, first, &mut taken)?;
+    let mut block = RowBlock::new(alloc);
+    let mut stages = Vec::new(alloc);
+    take_first(alloc, weighing, first, &mut block)?;
+    stages.push(block.names.as_slice().len())?;
+    for class in CLASSES {
+        take_class(alloc, weighing, class, first, &mut block)?;
+        stages.push(block.names.as_slice().len())?;
     }
-    Ok(taken)
+    Ok(TakenRows { block, stages })
 }

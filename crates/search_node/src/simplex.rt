@@ -13,11 +13,11 @@ ghost use Rattle.search_node.specs.Tables.{IsBlockOf};
 
 use crate::block::RowBlock;
 use crate::guesses::{Candidate, candidate_of, lesser};
-use crate::rows_taken::{RowClass, take_rows};
+use crate::rows_taken::take_rows;
 use crate::together::multipliers_together;
 use crate::weighing::Weighing;
 use dual_bound::Guess;
-use fixed_simplex::multipliers_within;
+use fixed_simplex::{Course, multipliers_by};
 use limits::SIMPLEX_COLUMNS;
 use std::alloc::{AllocError, Global};
 
@@ -28,8 +28,13 @@ fn is_wide(weighing: &Weighing) -> bool
     weighing.ranges.ends().len() > SIMPLEX_COLUMNS as usize
 }
 
-/// A multiplier for each row of a block.
-fn multipliers_of(alloc: Global, weighing: &Weighing, block: &RowBlock) -> Result<Guess, AllocError>
+/// A multiplier for each row of a block that was taken by these stages.
+fn multipliers_of(
+    alloc: Global,
+    weighing: &Weighing,
+    block: &RowBlock,
+    stages: &[usize],
+) -> Result<Guess, AllocError>
     requires whole { IsWhole weighing.now }
     requires block { IsBlockOf weighing.now.plant.now (length weighing.now.bx.now) block.now }
     ensures { IfOk result (λ guess. IsGuess block.now.rows guess.y guess.q) }
@@ -37,22 +42,25 @@ fn multipliers_of(alloc: Global, weighing: &Weighing, block: &RowBlock) -> Resul
     if is_wide(weighing) {
         return multipliers_together(alloc, weighing, block);
     }
-    multipliers_within(
+    let course = Course {
+        stages,
+        pivots: weighing.pivots,
+        enough: weighing.enough,
+    };
+    multipliers_by(
         alloc,
         &block.rows,
         weighing.ranges,
         &weighing.table.objective,
-        weighing.pivots,
+        &course,
     )
 }
 
-/// The better of a candidate and what the simplex makes of some rows: those with which the task begins, and those of
-/// these classes.
+/// The better of a candidate and what the simplex makes of the rows with which the task begins and those of the table.
 pub(crate) fn lesser_of_rows(
     alloc: Global,
     weighing: &Weighing,
     first: &RowBlock,
-    classes: &[RowClass],
     best: Candidate,
 ) -> Result<Candidate, AllocError>
     requires whole { IsWhole weighing.now }
@@ -61,8 +69,8 @@ pub(crate) fn lesser_of_rows(
     ensures candidate { IfOk result (IsCandidate (setting_of weighing.now) weighing.now.bx.now) }
     ensures best { IfOk result (IsNoWorse best) }
 {
-    let block = take_rows(alloc, weighing, first, classes)?;
-    let guess = multipliers_of(alloc, weighing, &block)?;
-    let found = candidate_of(alloc, weighing, &block, &guess)?;
+    let taken = take_rows(alloc, weighing, first)?;
+    let guess = multipliers_of(alloc, weighing, &taken.block, taken.stages.as_slice())?;
+    let found = candidate_of(alloc, weighing, &taken.block, &guess)?;
     Ok(lesser(best, found))
 }

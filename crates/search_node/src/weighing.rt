@@ -15,4 +15,6 @@ pub(crate) struct Weighing<'a> {
     pub ranges: &'a Ranges,
     /// After so many pivots the simplex stops.
     pub pivots: u32,
+    /// The best margin seen: a value that is no greater is as good as any.
+    pub enough: Option<i64>,
 }

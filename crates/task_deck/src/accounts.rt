@@ -1,6 +1,6 @@
 ghost use Rattle.std.specs.Prelude.{◌≡◌, [], true, false, Contains, IfOk, OnOk, length};
 ghost use Rattle.crossbeam_deque.specs.Handles.{view, IsPassOf, worker_deque, worker_flavor, worker_view};
-ghost use Rattle.task_deck.specs.Accounts.{IsAccount};
+ghost use Rattle.task_deck.specs.Accounts.{AccountsAddUp, IsAccount};
 ghost use Rattle.task_deck.specs.Decks.{IsPassOfDeck, deck_of, deck_behind, owner_view, stolen_by, ArePassesFrom};
 ghost use Rattle.task_deck.specs.inside.Dealing.{IsDealtOut};
 ghost use Rattle.task_deck.specs.inside.Hands.{with_known, with_taken};
@@ -77,3 +77,8 @@ pub fn account(
     drain(&mut deque, &mut left)?;
     Ok(Account { left })
 }
+
+/// What accounts say of tasks in whatever order: a call does nothing and brings the law.
+pub fn account_laws()
+    ensures { AccountsAddUp }
+{}

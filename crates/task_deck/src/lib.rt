@@ -18,6 +18,6 @@ mod ends;
 mod hand;
 mod owner;
 
-pub use accounts::account;
+pub use accounts::{account, account_laws};
 pub use ends::{Account, Door, DoorPass, DoorPasses, Doors, Owner, Stolen};
 pub use owner::deck;

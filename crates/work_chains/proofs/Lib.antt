@@ -1,3 +1,4 @@
 pub mod ChainLaws
 pub mod NodeNumbers
 pub mod SettledLaw
+pub mod ShareLaws

@@ -6,14 +6,16 @@
 //!
 //! To the crates above this crate promises the settled law: notes that are the chains of the root's task and of all
 //! that was handed on, each once, with tickets from 0 on, each once, are the notes of one whole search tree, and each
-//! has the box that the splits from the root give it. [`settled_law`] says so of boxes of slots, [`chain_laws`] how
-//! chains grow while a worker writes them. It has no code that runs.
+//! has the box that the splits from the root give it. [`settled_law`] says so of boxes of slots, [`shares_law`] of the
+//! notes of several workers, whoever of them took which task, and [`chain_laws`] how chains grow while a worker writes
+//! them. It has no code that runs.
 //!
 //! Begin with `specs/Chains.antt`, then `ChainsSettle` in `specs/Laws.antt`; its proof is `proofs/SettledLaw.antt`, by
 //! counting numbers of nodes and by going up from each note to the root, through boxes with more and more points.
 #![tactic(auto)]
 
 ghost use Rattle.work_chains.specs.Laws.{ChainsTake, ChainsClose, ChainsDivide, ChainsSettle};
+ghost use Rattle.work_chains.specs.Shares.{SharesSettle};
 
 /// How chains grow at their end: a call does nothing and brings the laws.
 pub fn chain_laws()
@@ -25,4 +27,9 @@ pub fn chain_laws()
 /// When notes are those of a whole search tree: a call does nothing and brings the law.
 pub fn settled_law()
     ensures { ChainsSettle }
+{}
+
+/// When the notes of several workers are: a call does nothing and brings the law.
+pub fn shares_law()
+    ensures { SharesSettle }
 {}

@@ -5,7 +5,7 @@ use super::samples::{
     three_rows, two_rows,
 };
 use dual_bound::{bound, is_objective, is_system, shows_empty};
-use fixed_simplex::{multipliers, multipliers_within};
+use fixed_simplex::{Course, multipliers, multipliers_by};
 use linear_form::{Objective, RowList};
 use std::alloc::Global;
 use std::process::Abort;
@@ -75,8 +75,16 @@ fn stops_where_it_is_told(rt: HostRuntime) -> Result<(), Fail> {
     assert!(rt; is_system(&rows, &ranges));
     assert!(rt; is_objective(&ranges, &gain));
     assert!(rt; ranges.ends().len() <= 4000);
-    let guess = multipliers_within(rt.alloc(), &rows, &ranges, &gain, 0)?;
-    assert_eq!(rt; bound(&rows, &ranges, &gain, &guess), 50);
+    let count = rows.as_slice().len();
+    for (stages, pivots, expected) in [([0, count], 0, 50), ([0, 0], 100, 50)] {
+        let course = Course {
+            stages: &stages,
+            pivots,
+            enough: None,
+        };
+        let guess = multipliers_by(rt.alloc(), &rows, &ranges, &gain, &course)?;
+        assert_eq!(rt; bound(&rows, &ranges, &gain, &guess), expected);
+    }
     Ok(())
 }
 

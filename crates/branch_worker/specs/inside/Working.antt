@@ -1,5 +1,5 @@
 -- A worker in the middle of its work.
-use Rattle.std.specs.Prelude.{◌≡◌, ℕ, ◌+◌, ◌-◌, ◌*◌, ◌≤◌, ℤ, All, List, [], ◌∷◌, ◌++◌, map, length, Option, Some, None, option_map}
+use Rattle.std.specs.Prelude.{◌≡◌, ◌⊎◌, ℕ, ◌+◌, ◌-◌, ◌*◌, ◌<◌, ◌≤◌, ℤ, All, List, [], ◌∷◌, ◌++◌, map, length, Option, Some, None, option_map, IsPermutation, IsSome}
 use Rattle.number_laws.specs.Missing.{IsAtMost}
 use Rattle.plant_model.specs.declared.parts.Parts.{Parts}
 use Rattle.slot_box.specs.declared.node.Leaf.{Leaf}
@@ -23,8 +23,13 @@ use Rattle.branch_worker.specs.declared.site.Site.{Site}
 use Rattle.branch_worker.specs.declared.worker.Worker.{Worker}
 use Rattle.search_node.specs.Notes.{NoteOver, notes_over, box_note}
 use Rattle.branch_worker.specs.NoteBoxes.{IsTrueNote}
+use Rattle.branch_worker.specs.Sites.{ArePassesOfOthers}
 use Rattle.branch_worker.specs.NoteOrder.{IsInnerNode, IsPointNode, AreSeenInTurn, ValuesFall}
-use Rattle.branch_worker.specs.Work.{box_task, IsBestFound, IsLeftWell, IsSameSeat}
+use Rattle.task_deck.specs.Accounts.{all_stolen}
+use Rattle.branch_worker.specs.Work.{AreSamePasses, IsBestFound, IsLeftWell, IsSameOwner, IsSameSeat, box_task}
+use Rattle.task_deck.specs.declared.ends.DoorPass.{DoorPass}
+use Rattle.task_deck.specs.declared.ends.Owner.{Owner}
+use Rattle.task_deck.specs.Decks.{owner_view}
 
 -- ---- between two notes
 
@@ -58,25 +63,77 @@ pub record IsSeenBy (seat : SeatView) (note : NodeNote) : Type 0 where
 abbrev pub SawAtLeast : Option ℤ → NodeNote → Type 0
 SawAtLeast before note = IsAtMost before note.seen
 
--- with what a worker began: the plant and the number of slots, its seat, and the tasks that it was given
+-- with what a worker began: the plant and the number of slots, its seat, the tasks that it was given, its own deck,
+-- if it works among others, and its passes
 pub record Start : Type 0 where
   pub parts : Parts
   pub slots : ℕ
   pub seat : SeatView
   pub first : List TaskParts
+  pub owner : Option Owner
+  pub passes : List DoorPass
+
+-- a worker that does nothing yet
+abbrev pub start_of : Parts → ℕ → Worker → Start
+start_of parts slots worker = record {
+  parts = parts;
+  slots = slots;
+  seat = worker.seat;
+  first = worker.waiting;
+  owner = worker.owner;
+  passes = worker.passes;
+}
 
 -- the setting of its leaves
 abbrev pub setting_of : Start → Setting
 setting_of start = plain_setting start.parts start.slots
 
+-- ---- tasks that come and go
+
+-- what the owner pushed and popped; a worker that works alone has no deck
+abbrev pub pushed_of : Option Owner → List TaskParts
+pushed_of None = []
+pushed_of (Some owner) = (owner_view owner).pushed
+
+abbrev pub popped_of : Option Owner → List TaskParts
+popped_of None = []
+popped_of (Some owner) = (owner_view owner).popped
+
+-- the tasks that have come to the worker so far
+abbrev pub came_to : Start → Worker → List TaskParts
+came_to start worker = start.first ++ popped_of worker.owner ++ all_stolen worker.passes
+
+-- both lists have the same tasks, each as often: in the same order with a worker that works alone, in any order with
+-- one that has a deck
+abbrev pub HaveSame : Option Owner → List BoxTask → List BoxTask → Type 0
+HaveSame None xs ys = xs ≡ ys
+HaveSame (Some owner) xs ys = IsPermutation xs ys
+
+-- the worker has the same deck still, or still none
+abbrev pub HasSameOwner : Option Owner → Option Owner → Type 0
+HasSameOwner None None = Unit {0}
+HasSameOwner None (Some new) = ⊥
+HasSameOwner (Some old) None = ⊥
+HasSameOwner (Some old) (Some new) = IsSameOwner old new
+
+-- the tasks of a worker between any two steps, over the notes so far: which it took and which its chains handed on.
+-- It took what came to it, and of what was handed on it pushed some to its deck and kept the others, of which some may
+-- still wait
+pub record HasTasks (start : Start) (worker : Worker) (over : List NoteOver) (hand : Option TaskParts) : Type 0 where
+  pub taken : List BoxTask
+  pub handed : List BoxTask
+  pub kept : List BoxTask
+  pub chains : AreBoxChains taken (map box_note over) handed (option_map box_task hand)
+  pub came : HaveSame start.owner (taken ++ map box_task worker.waiting) (map box_task (came_to start worker) ++ kept)
+  pub went : HaveSame start.owner handed (map box_task (pushed_of worker.owner) ++ kept)
+  pub owner : HasSameOwner start.owner worker.owner
+  pub passes : AreSamePasses start.passes worker.passes
+
 -- what a worker keeps between any two steps, with the task in hand and the ticket for it
 pub record IsWorking (start : Start) (worker : Worker) (hand : Option TaskParts) (held : Option ℕ) : Type 0 where
   pub over : List NoteOver
-  pub taken : List BoxTask
-  pub kept : List BoxTask
   pub notes : worker.notes ≡ notes_over over
-  pub chains : AreBoxChains taken (map box_note over) kept (option_map box_task hand)
-  pub order : taken ++ map box_task worker.waiting ≡ map box_task start.first ++ kept
+  pub tasks : HasTasks start worker over hand
   pub tickets : worker.seat.tickets ≡ tickets_with (tickets_of (map box_note over)) held
   pub drawn : worker.drawn ≡ length (tickets_of (map box_note over))
   pub seat : IsSameSeat start.seat worker.seat
@@ -91,6 +148,13 @@ pub record IsWorking (start : Start) (worker : Worker) (hand : Option TaskParts)
   pub found : IsBestFound start.parts start.slots worker.seat.offer worker.found
   pub cuts : worker.cuts ≡ []
 
+-- a right part was handed on: it was pushed to the worker's own deck, or else it waits behind those that are kept
+pub record HandsOn (right : TaskParts) (old new : Worker) : Type 0 where
+  pub owner : HasSameOwner old.owner new.owner
+  pub popped : popped_of new.owner ≡ popped_of old.owner
+  pub went : ((new.waiting ≡ old.waiting) × (pushed_of new.owner ≡ pushed_of old.owner ++ right ∷ []))
+      ⊎ ((new.waiting ≡ old.waiting ++ right ∷ []) × (pushed_of new.owner ≡ pushed_of old.owner))
+
 -- since the last note the worker has looked at the board
 pub record HasLooked (worker : Worker) : Type 0 where
   pub looks : length worker.notes + 1 ≤ worker.seat.looks
@@ -101,6 +165,13 @@ pub record BeganAt (site : Site) (start : Start) : Type 0 where
   pub parts : start.parts ≡ site.plant.now
   pub slots : start.slots ≡ site.n
   pub board : start.seat.board ≡ site.board.now
+
+-- among others, under this number
+pub record BeganAmong (site : Site) (number : ℕ) (start : Start) : Type 0 where
+  pub at : BeganAt site start
+  pub deck : IsSome start.owner
+  pub door : number < length site.doors.now
+  pub passes : ArePassesOfOthers number site.doors.now start.passes
 
 -- ---- the box in hand
 

@@ -187,6 +187,91 @@ const DEMURRAGE_DUAL_CASES: &[Case] = &[
     (11, "node 0 dual 576 16.1.1.0.0=1", 10, 11),
 ];
 
+// A cut has a set of vessels and tanks, a denominator of 1 to 1024, and one weight for each crude; no number is above
+// 2^20. An empty set has no rows. With the greatest numbers the row lets through more than 12.
+const EMPTY_CUT_LINES: &[Case] = &[
+    (9, "cuts 0", 1, 10),
+    (9, "cuts 4353", 2, 9),
+    (10, "cut 1 0 1", 1, 10),
+    (10, "cut 1 0 1 0 0 0 0 0 0 0 0 0 0 0 0 0", 2, 10),
+    (10, "cut 1 0 1 0 0", 12, 10),
+    (10, "cut 1 0 1 0 0 0 0 0 0 0 0 0 0 0 0", 12, 10),
+    (10, "cut 2 0 1 0", 12, 10),
+    (10, "cut 3 0 1 0", 12, 10),
+    (10, "cut 4 0 1 0", 12, 10),
+    (10, "cut 9223372036854775809 0 1 0", 12, 10),
+    (10, "cut 18446744073709551616 0 1 0", 1, 10),
+    (10, "cut 0 0 1 0", 13, 11),
+    (10, "cut 1 0 0 0", 12, 10),
+    (10, "cut 1 0 -1 0", 12, 10),
+    (10, "cut 1 0 1024 0", 0, 0),
+    (10, "cut 1 0 1025 0", 12, 10),
+    (10, "cut 1 1048576 1 0", 15, 7),
+    (10, "cut 1 1048577 1 0", 12, 10),
+    (10, "cut 1 -1048577 1 0", 12, 10),
+    (10, "cut 1 0 1 -1048576", 15, 7),
+    (10, "cut 1 0 1 -1048577", 12, 10),
+    (10, "cut 1 0 1 -9223372036854775808", 12, 10),
+];
+
+// What is told of an entry: its multiplier, then that there is no such cut, then that it has no such row.
+const EMPTY_CUT_ENTRIES: &[Case] = &[
+    (11, "node 0 dual 1 cut.1.1.0=1", 11, 11),
+    (11, "node 0 dual 1 cut.0.0.0=1", 13, 11),
+    (11, "node 0 dual 1 cut.0.2.0=1", 13, 11),
+    (11, "node 0 dual 1 cut.0.1.1=1", 13, 11),
+    (11, "node 0 dual 1 cut.0.1.255=1", 13, 11),
+    (11, "node 0 dual 1 cut.4294967295.2.1=1", 11, 11),
+    (11, "node 0 dual 1 cut.1.2.1=4294967297", 9, 11),
+    (11, "node 0 dual 1 cut.0.1.0=4294967296", 0, 0),
+    (11, "node 0 dual 1 cut.0.2.0=1 cut.1.1.0=1", 13, 11),
+    (11, "node 0 dual 1 cut.1.1.0=1 99.1.0.0.0=1", 11, 11),
+    (11, "node 0 dual 1 99.1.0.0.0=1 cut.1.1.0=1", 10, 11),
+    (11, "node 0 dual 0 cut.1.1.0=1", 9, 11),
+    (11, "node 0 void cut.0.1.0=1", 14, 11),
+    (11, "node 0 void cut.0.2.0=1", 13, 11),
+    (11, "node 0 open 1 cut.0.1.0=1", 0, 0),
+];
+
+// Behind 11 times the cut the value is 660, without it 5000.
+const CUT_DUAL_CASES: &[Case] = &[
+    (7, "bound 599", 15, 7),
+    (7, "bound 601", 15, 7),
+    (10, "cut 1 1 10 0", 12, 10),
+    (10, "cut 1 1 10 0 1 0", 12, 10),
+    (10, "cut 1 1 9 0 1", 15, 7),
+    (11, "node 0 dual 1 2.1.0.0.0=10 cut.1.1.0=10", 11, 11),
+    (11, "node 0 dual 1 2.1.0.0.0=10 cut.0.2.0=10", 13, 11),
+    (11, "node 0 dual 1 2.1.0.0.0=10 cut.0.1.0=11", 15, 7),
+    (11, "node 0 dual 1 2.1.0.0.0=10", 15, 7),
+    (11, "node 0 dual 1 cut.0.1.0=10 2.1.0.0.0=10", 0, 0),
+    (
+        11,
+        "node 0 dual 1 2.1.0.0.0=10 cut.0.1.0=4 cut.0.1.0=6",
+        0,
+        0,
+    ),
+    (11, "node 0 dual 2 2.1.0.0.0=20 cut.0.1.0=20", 0, 0),
+];
+
+const TWO_CUTS_CASES: &[Case] = &[
+    (9, "cuts 1", 1, 11),
+    (10, "cut 2 0 1 0 0", 12, 10),
+    (11, "cut 2 1 10 0 1", 12, 11),
+    (12, "node 0 dual 1 2.1.0.0.0=10 cut.0.1.0=10", 15, 7),
+    (12, "node 0 dual 1 2.1.0.0.0=10 cut.2.1.0=10", 11, 12),
+];
+
+// The source of operation 0 is not in the set; with it in the set nothing is brought, but it exceeds the threshold by
+// 450 at first.
+const DRIFT_DUAL_CASES: &[Case] = &[
+    (10, "cut 3 1 10 0 1", 15, 7),
+    (10, "cut 4 1 10 0 1", 12, 10),
+    (11, "node 0 dual 1 cut.0.1.1=1", 15, 7),
+    (11, "node 0 dual 1 cut.0.2.0=1", 13, 11),
+    (11, "node 0 dual 1 cut.0.3.1=1", 13, 11),
+];
+
 /// A file, and what its verdict is with one of its lines changed.
 pub type Table = (&'static str, &'static [Case]);
 
@@ -206,6 +291,12 @@ const FIXED_RATE: &[Table] = &[(VOID_ROOT, VOID_ROOT_CASES)];
 const SLOW_CHARGE: &[Table] = &[(RATE_DUAL, RATE_DUAL_CASES)];
 
 const LATE_VESSEL: &[Table] = &[(DEMURRAGE_DUAL, DEMURRAGE_DUAL_CASES)];
+
+const CUTS: &[Table] = &[(EMPTY_CUT, EMPTY_CUT_LINES), (EMPTY_CUT, EMPTY_CUT_ENTRIES)];
+
+const LIMIT: &[Table] = &[(CUT_DUAL, CUT_DUAL_CASES), (TWO_CUTS, TWO_CUTS_CASES)];
+
+const DRIFT: &[Table] = &[(DRIFT_DUAL, DRIFT_DUAL_CASES)];
 
 const INLETS: &[Table] = &[
     (DEAD_PREFIX, DEAD_PREFIX_CASES),
@@ -230,4 +321,16 @@ pub fn late_vessel_tables() -> &'static [Table] {
 
 pub fn inlets_tables() -> &'static [Table] {
     INLETS
+}
+
+pub fn cut_tables() -> &'static [Table] {
+    CUTS
+}
+
+pub fn limit_tables() -> &'static [Table] {
+    LIMIT
+}
+
+pub fn drift_tables() -> &'static [Table] {
+    DRIFT
 }

@@ -231,6 +231,72 @@ node 0 dual 576 3.1.0.1.0=1 4.1.0.0.0=2880 10.0.0.0.0=1440 16.0.1.0.0=2880
 end
 ";
 
+// Of `one_charge`: a cut by which no crude weighs anything, so that its row has no terms.
+pub const EMPTY_CUT: &str = "\
+crude dossier 1
+order slots
+slots 1
+nodes 0
+answer open
+margin none
+bound 12
+plan none
+cuts 1
+cut 1 0 1 0
+node 0 dual 1 cut.0.1.0=1
+end
+";
+
+// Of `blend_limit`: of the crude that earns 100, a charge of 50 holds no more than 6.
+pub const CUT_DUAL: &str = "\
+crude dossier 1
+order slots
+slots 1
+nodes 0
+answer open
+margin none
+bound 600
+plan none
+cuts 1
+cut 1 1 10 0 1
+node 0 dual 1 2.1.0.0.0=10 cut.0.1.0=10
+end
+";
+
+// The same by the second of two cuts.
+pub const TWO_CUTS: &str = "\
+crude dossier 1
+order slots
+slots 1
+nodes 0
+answer open
+margin none
+bound 600
+plan none
+cuts 2
+cut 1 0 1 0 0
+cut 1 1 10 0 1
+node 0 dual 1 2.1.0.0.0=10 cut.1.1.0=10
+end
+";
+
+// Of `blend_drift`: 200 of the first slot; of the second 200 of the crude that weighs nothing, 20 that the cut allows,
+// and 900 for crude that the first slot may bring.
+pub const DRIFT_DUAL: &str = "\
+crude dossier 1
+order slots
+slots 2
+nodes 0
+answer open
+margin none
+bound 1320
+plan none
+cuts 1
+cut 2 1 10 0 1
+node 0 dual 1 cut.0.2.1=1
+end
+";
+
 /// A file, and the verdict on it.
 pub type Told = (&'static str, &'static str);
 
@@ -251,6 +317,15 @@ const INLETS_FILES: &[Told] = &[
     (DEAD_PREFIX, "yes open 2 0 99 20"),
     (DEAD_BEFORE, "yes open 3 0 99 30"),
 ];
+
+const CUT_FILES: &[Told] = &[(EMPTY_CUT, "yes open 1 0 99 12")];
+
+const LIMIT_FILES: &[Told] = &[
+    (CUT_DUAL, "yes open 1 0 99 600"),
+    (TWO_CUTS, "yes open 1 0 99 600"),
+];
+
+const DRIFT_FILES: &[Told] = &[(DRIFT_DUAL, "yes open 2 0 99 1320")];
 
 const SHORT_FILES: &[Told] = &[(ONE_DUAL, "no 17 8")];
 
@@ -274,6 +349,19 @@ pub fn late_vessel_files() -> &'static [Told] {
 
 pub fn inlets_files() -> &'static [Told] {
     INLETS_FILES
+}
+
+/// Of the plant of one charge, with a cut.
+pub fn cut_files() -> &'static [Told] {
+    CUT_FILES
+}
+
+pub fn limit_files() -> &'static [Told] {
+    LIMIT_FILES
+}
+
+pub fn drift_files() -> &'static [Told] {
+    DRIFT_FILES
 }
 
 /// Of the plant whose unit takes two charges at least: the plan breaks a rule on its end.

@@ -3,7 +3,9 @@ use super::samples::*;
 use dossier_check::{Claim, Verdict, check};
 use dossier_text::Word3;
 use plant_model::Plant;
-use sample_plants::{fixed_rate, late_vessel, one_charge, slow_charge, two_inlets};
+use sample_plants::{
+    blend_drift, blend_limit, fixed_rate, late_vessel, one_charge, slow_charge, two_inlets,
+};
 use std::alloc::{AllocError, Global};
 use std::test::Fail;
 
@@ -123,6 +125,15 @@ fn accepts_blocked_prefixes(rt: HostRuntime) -> Result<(), Fail> {
 }
 
 #[test]
+fn accepts_what_cuts_show(rt: HostRuntime) -> Result<(), Fail> {
+    let alloc = rt.alloc();
+    assert!(rt; are_told(alloc, one_charge().plant(alloc), cut_files())?);
+    assert!(rt; are_told(alloc, blend_limit(alloc), limit_files())?);
+    assert!(rt; are_told(alloc, blend_drift(alloc), drift_files())?);
+    Ok(())
+}
+
+#[test]
 fn names_the_first_reason(rt: HostRuntime) -> Result<(), Fail> {
     let plant = one_charge().plant(rt.alloc());
     assert_eq!(rt;
@@ -154,6 +165,22 @@ fn names_the_first_reason_against_rows(rt: HostRuntime) -> Result<(), Fail> {
 fn names_the_first_reason_against_prefixes(rt: HostRuntime) -> Result<(), Fail> {
     assert_eq!(rt;
         first_wrong_of(rt.alloc(), two_inlets(rt.alloc()), inlets_tables())?,
+        (0, 0)
+    );
+    Ok(())
+}
+
+#[test]
+fn names_the_first_reason_against_cuts(rt: HostRuntime) -> Result<(), Fail> {
+    let alloc = rt.alloc();
+    let plant = one_charge().plant(alloc);
+    assert_eq!(rt; first_wrong_of(alloc, plant, cut_tables())?, (0, 0));
+    assert_eq!(rt;
+        first_wrong_of(alloc, blend_limit(alloc), limit_tables())?,
+        (0, 0)
+    );
+    assert_eq!(rt;
+        first_wrong_of(alloc, blend_drift(alloc), drift_tables())?,
         (0, 0)
     );
     Ok(())

@@ -10,7 +10,8 @@ use Rattle.dual_bound.specs.declared.trial.Best.{Best}
 use Rattle.dual_bound.specs.Conditions.{IsGuess, reach_of}
 use Rattle.dual_bound.specs.Dual.{most_in, range_at}
 use Rattle.dual_bound.specs.inside.Cells.{Hold, AreWithin}
-use Rattle.dual_bound.specs.inside.Systems.{column_count, weight_in, value_in}
+use Rattle.dual_bound.specs.Improving.{single}
+use Rattle.dual_bound.specs.inside.Systems.{row_count, column_count, weight_in, value_in}
 
 -- the guess is kept with its own value
 pub record IsKnown (system : System) (best : Best) : Type 0 where
@@ -48,3 +49,12 @@ pub record AreWeights (system : System) (multipliers : List ℕ) (q : ℕ) (weig
   pub held : Hold (weight_in system multipliers q) weights
   pub within : AreWithin (2 ^ 125) weights
   pub room : HaveMoreRoom system.ranges.now.ends weights
+
+-- the value of a power of two as the multiplier of one row, without the others
+abbrev pub power_value : System → ℕ → ℕ → ℤ
+power_value system r k = value_in system (single (row_count system) r (2 ^ k)) 1
+
+-- where this power has no less value than the number, no greater power has less value
+abbrev pub TurnsFrom : System → ℕ → ℤ → ℕ → Type 0
+TurnsFrom system r number k =
+    number ≤ℤ power_value system r k → (j : ℕ) → k ≤ j → power_value system r k ≤ℤ power_value system r j

@@ -4,6 +4,7 @@ ghost use Rattle.std.specs.Prelude.{◌≤◌};
 ghost use Rattle.limits.specs.declared.TheConstants.{MOST_NODES, MOST_SLOTS};
 
 use branch_worker::{Alone, Site, work_alone};
+use cut_pool::CutPool;
 use item_lists::Items;
 use leaf_value::Scales;
 use outer_edge::Gate;
@@ -11,7 +12,7 @@ use plant_model::Plant;
 use sample_plants::{one_charge, two_inlets};
 use search_board::{Board, Closed};
 use search_node::{NodeNote, Notes};
-use slot_box::{Leaf, Node, Task, Tasks};
+use slot_box::{Leaf, Node, Task};
 use slot_forms::root_box;
 use std::alloc::{AllocError, Global};
 use std::process::Abort;
@@ -24,9 +25,9 @@ const NUMBER: u32 = 3;
 // Adds up what it is called with. All tests here have such a gate, since each kind of gate has the whole worker proved
 // again for it.
 #[derive(Drop)]
-struct Counter {
-    workers: AtomicU64,
-    drawn: AtomicU64,
+pub(crate) struct Counter {
+    pub workers: AtomicU64,
+    pub drawn: AtomicU64,
 }
 
 impl Gate for Counter {
@@ -38,24 +39,31 @@ impl Gate for Counter {
 
 /// What a worker did on a plant.
 #[derive(Drop)]
-struct Worked {
-    notes: Notes,
-    margin: Option<i64>,
-    closed: Closed,
+pub(crate) struct Worked {
+    pub notes: Notes,
+    pub margin: Option<i64>,
+    pub closed: Closed,
     /// The sum of the workers' numbers that the gate was called with.
-    workers: u64,
+    pub workers: u64,
     /// The sum of the numbers of tickets drawn so far.
-    drawn: u64,
+    pub drawn: u64,
 }
 
 /// The task of the root.
-fn root_task(alloc: Global, plant: &Plant, n: u32) -> Result<Tasks, AllocError>
+pub(crate) fn root_task(alloc: Global, plant: &Plant, n: u32) -> Result<Task, AllocError>
     requires some_slots { 1 ≤ n }
     requires most_slots { n ≤ MOST_SLOTS }
 {
     let root = root_box(alloc, plant, n)?;
-    let task = Task::new(0, root, 1, Items::new(alloc));
-    Ok(Items::from_vec(vec![in alloc; task]?))
+    Ok(Task::new(0, root, 1, Items::new(alloc)))
+}
+
+/// A gate that was not called yet.
+pub(crate) fn uncalled_gate() -> Counter {
+    Counter {
+        workers: AtomicU64::new(0),
+        drawn: AtomicU64::new(0),
+    }
 }
 
 /// Lets one worker search with so many slots and tickets.
@@ -66,23 +74,24 @@ fn work(alloc: Global, plant: &Plant, n: u32, budget: u32) -> Result<Worked, All
 {
     let scales = Scales::new(alloc, plant, n)?;
     let (board, seat) = Board::new(alloc, budget)?;
+    let doors = Items::new(alloc);
+    let pool = CutPool::new(alloc)?;
     let site = Site {
         plant,
         cliques: &scales.cliques,
         automaton: &scales.automaton,
         n,
         board: &board,
+        doors: &doors,
+        pool: &pool,
     };
-    let first = root_task(alloc, plant, n)?;
+    let task = root_task(alloc, plant, n)?;
     let me = Alone {
         number: NUMBER,
         seat,
-        first,
+        first: Items::from_vec(vec![in alloc; task]?),
     };
-    let gate = Counter {
-        workers: AtomicU64::new(0),
-        drawn: AtomicU64::new(0),
-    };
+    let gate = uncalled_gate();
     let done = work_alone(alloc, &site, me, &gate)?;
     let margin = match &done.found {
         Some(planned) => Some(planned.margin),
@@ -103,12 +112,12 @@ fn is_open(note: &NodeNote) -> bool {
 }
 
 /// How many leaves were left open.
-fn open_count(notes: &Notes) -> u64 {
+pub(crate) fn open_count(notes: &Notes) -> u64 {
     notes.as_slice().iter().filter(|note| is_open(note)).count() as u64
 }
 
 /// The greatest value of a leaf.
-fn bound(notes: &Notes) -> Option<i64> {
+pub(crate) fn bound(notes: &Notes) -> Option<i64> {
     notes
         .as_slice()
         .iter()
@@ -117,23 +126,21 @@ fn bound(notes: &Notes) -> Option<i64> {
         .max()
 }
 
-// The first look at the root finds the best plan, which closes it: no ticket is drawn, and the gate is not called.
+// A plan of one operation has 46 points, so that 45 tickets decide, whatever is tried first.
 #[test]
-fn one_look_may_do(rt: HostRuntime) -> Result<(), Fail> {
+fn a_ticket_for_each_point_but_one_decides(rt: HostRuntime) -> Result<(), Fail> {
     let alloc = rt.alloc();
-    let worked = work(alloc, &one_charge().plant(alloc)?, 1, 5)?;
+    let worked = work(alloc, &one_charge().plant(alloc)?, 1, 45)?;
     assert_eq!(rt; worked.margin, Some(12));
     assert_eq!(rt; worked.closed.best, Some(12));
-    assert_eq!(rt; worked.closed.tickets, 0);
-    assert_eq!(rt; worked.notes.as_slice().len(), 1);
     assert_eq!(rt; bound(&worked.notes), Some(12));
-    assert_eq!(rt; worked.workers, 0);
+    assert_eq!(rt; open_count(&worked.notes), 0);
     Ok(())
 }
 
 // Each ticket makes two nodes more. The gate is called before each, with the number of those before it, and with the
 // number of all once more for each leaf that is left open.
-fn assert_counted(rt: &impl Abort, worked: &Worked, budget: u32) {
+pub(crate) fn assert_counted(rt: &impl Abort, worked: &Worked, budget: u32, number: u32) {
     let (tickets, open) = (worked.closed.tickets, open_count(&worked.notes));
     let nodes = worked.notes.as_slice().len() as u64;
     let calls = tickets.saturating_add(open);
@@ -148,7 +155,7 @@ fn assert_counted(rt: &impl Abort, worked: &Worked, budget: u32) {
     );
     assert_eq!(rt;
         worked.workers,
-        calls.saturating_mul(u64::from(NUMBER)),
+        calls.saturating_mul(u64::from(number)),
         "{budget}"
     );
     assert_eq!(rt; worked.drawn, drawn, "{budget}");
@@ -156,7 +163,7 @@ fn assert_counted(rt: &impl Abort, worked: &Worked, budget: u32) {
 
 // The tank holds at most 10, and a second charge leaves but one filling, so the best plan of three operations fills the
 // tank twice and charges 10. A smaller budget may miss it; where no leaf is left open it was found.
-fn assert_bounded(rt: &impl Abort, worked: &Worked, budget: u32) {
+pub(crate) fn assert_bounded(rt: &impl Abort, worked: &Worked, budget: u32) {
     let bound = bound(&worked.notes);
     assert!(rt; worked.margin <= Some(10), "{budget}");
     assert!(rt; bound >= Some(10), "{budget}");
@@ -173,7 +180,7 @@ fn a_budget_may_be_spent(rt: HostRuntime) -> Result<(), Fail> {
     let plant = two_inlets(alloc)?;
     for budget in [0, 1, 5, 40] {
         let worked = work(alloc, &plant, 3, budget)?;
-        assert_counted(&rt, &worked, budget);
+        assert_counted(&rt, &worked, budget, NUMBER);
         assert_bounded(&rt, &worked, budget);
     }
     Ok(())

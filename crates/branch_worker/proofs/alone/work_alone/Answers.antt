@@ -1,6 +1,7 @@
-use Rattle.std.proofs.Common.{ap, ◌∙◌, refl, rules}
+use Rattle.std.proofs.Common.{None, [], false, ap, ◌∙◌, refl, rules}
 use Rattle.branch_worker.specs.declared.worker.Worker.{Worker}
-use Rattle.branch_worker.proofs.AloneLaws.{IsAloneDone-ended, IsWorking-begun}
+use Rattle.branch_worker.proofs.BeginLaws.{IsWorking-begun}
+use Rattle.branch_worker.proofs.EndLaws.{IsAloneDone-ended}
 use Rattle.branch_worker.proofs.alone.work_alone.Goals as goal
 
 pub work_off-requires-sync-G : goal.work_off-requires-sync-G
@@ -12,8 +13,8 @@ work_off-requires-sync-G g c κs shorter = (
       c.requires.site,
       (
         record { parts = refl; slots = refl; board = ap (λ (w : Worker). w.seat.board) c.begin.ensures ∙ c.requires.seat.of_board },
-        IsWorking-begun c.args.site.now.plant.now c.args.site.now.n c.args.site.now.board.now c.args.me.seat c.args.me.first c.begin.result c.requires.seat
-            c.begin.ensures,
+        IsWorking-begun c.args.site.now.plant.now c.args.site.now.n c.args.site.now.board.now c.args.me.seat c.args.me.first None [] false c.begin.result
+            c.requires.seat c.begin.ensures refl refl refl,
       ),
     ),
   ),

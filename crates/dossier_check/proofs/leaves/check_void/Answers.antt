@@ -1,4 +1,4 @@
-use Rattle.std.proofs.Common.{◌≡◌, ◌++◌, Err, ap, sym, ◌∙◌, subst}
+use Rattle.std.proofs.Common.{◌++◌, Err, ap, sym, ◌∙◌, subst}
 use Rattle.std.specs.Result.{result_err}
 use Rattle.std.proofs.lemmas.Result.{err_from_is_err_and}
 use Rattle.item_lists.specs.Faults.{unless}

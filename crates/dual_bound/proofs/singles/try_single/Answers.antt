@@ -14,7 +14,7 @@ use Rattle.dual_bound.proofs.StoredNumbers.{read-mag, read-small}
 use Rattle.dual_bound.proofs.singles.try_single.Goals as goal
 use Rattle.dual_bound.proofs.singles.try_single.Goals.{After-keep_single}
 
-value_of : (c : After-keep_single) → to_z w128 (of_z w128 c.plus.result) ≡ sum_in c.args.system.now (single (row_count c.args.system.now) c.args.r c.args.y) 1
+value_of : (c : After-keep_single) → to_z w128 (of_z w128 c.plus-value.result) ≡ sum_in c.args.system.now (single (row_count c.args.system.now) c.args.r c.args.y) 1
 value_of c =
     let rows = c.args.system.now.rows.now in
     let bounds = c.args.system.now.ranges.now in
@@ -30,10 +30,10 @@ value_of c =
     let right = read-small c.right.result (record { sfits = c.right.type_inv }) ∙ (rw (← c.index-system-r.is) at c.right.ensures.value) in
     let part : c.scaled.result ≡ pos c.args.y *ℤ row.right = rw (times, right) at c.scaled.ensures.value in
     let first = rw (read-mag c.args.zero_sum c.ranges.zero_sum.sfits, read-mag c.scaled.result c.scaled.type_inv) at c.plus-right.ensures in
-    let whole = rw (read-mag c.plus-right.result c.plus-right.type_inv, read-mag c.change_by-change.result c.change_by-change.type_inv) at c.plus.ensures in
+    let whole = rw (read-mag c.plus-right.result c.plus-right.type_inv, read-mag c.change_by-change.result c.change_by-change.type_inv) at c.plus-value.ensures in
     let law = single-sum rows bounds c.args.system.now.objective.now n c.args.r c.args.y row c.requires.row c.requires.row c.index-system-r.is columns
     (rw (← c.index-system-r.is) at c.terms.ensures.once) in
-    let stored = read-mag c.plus.result c.plus.type_inv in
+    let stored = read-mag c.plus-value.result c.plus-value.type_inv in
     let zeros = c.requires.zeros in
     omega (arith, ints, change, held, part, first, whole, law, stored, zeros)
 
@@ -42,10 +42,10 @@ kept c =
     let rows = c.args.system.now.rows.now in
     let bounds = c.args.system.now.ranges.now in
     let count : length c.args.best.now.y.items ≡ length rows = c.requires.known.guess.as_many in
-    let lesser : KeepsLesser c.args.best.now c.keep_single.new.best (single (length rows) c.args.r c.args.y) 1 (to_z w128 (of_z w128 c.plus.result)) =
+    let lesser : KeepsLesser c.args.best.now c.keep_single.new.best (single (length rows) c.args.r c.args.y) 1 (to_z w128 (of_z w128 c.plus-value.result)) =
     rw count at c.keep_single.ensures in
     kept-known c.args.system.now c.args.best.now c.keep_single.new.best (single (length rows) c.args.r c.args.y) 1
-    (to_z w128 (of_z w128 c.plus.result)) c.requires.known
+    (to_z w128 (of_z w128 c.plus-value.result)) c.requires.known
     (single-guess rows (length rows) c.args.r c.args.y refl c.requires.few)
     (value_of c ∙ sym (floor-one (sum_in c.args.system.now (single (length rows) c.args.r c.args.y) 1))) lesser
 
@@ -57,3 +57,6 @@ returns-clause-before c = (kept c).before
 
 pub returns-clause-tried : goal.returns-clause-tried
 returns-clause-tried c = (kept c).tried
+
+pub returns-clause-value : goal.returns-clause-value
+returns-clause-value c = value_of c ∙ sym (floor-one (sum_in c.args.system.now (single (row_count c.args.system.now) c.args.r c.args.y) 1))

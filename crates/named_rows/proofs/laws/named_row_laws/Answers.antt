@@ -4,12 +4,12 @@ use Rattle.named_rows.proofs.laws.named_row_laws.Goals as goal
 
 pub returns-clause-bounds : goal.returns-clause-bounds
 returns-clause-bounds c =
-    dual_values_bound_margins c.args.plant.now c.slot_row_laws.ensures.rows c.tank_row_laws.ensures c.clique_laws.ensures.cliques c.row_form_laws.ensures.columns
+    dual_values_bound_margins c.args.plant.now c.slot_row_laws.ensures.rows c.tank_row_laws.ensures c.cut_row_laws.ensures c.clique_laws.ensures.cliques c.row_form_laws.ensures.columns
     c.box_laws.ensures.live c.sound.ensures.plant
 
 pub returns-clause-empty : goal.returns-clause-empty
 returns-clause-empty c =
-    empty_boxes_have_no_form c.args.plant.now c.slot_row_laws.ensures.rows c.tank_row_laws.ensures c.clique_laws.ensures.cliques c.row_form_laws.ensures.columns
+    empty_boxes_have_no_form c.args.plant.now c.slot_row_laws.ensures.rows c.tank_row_laws.ensures c.cut_row_laws.ensures c.clique_laws.ensures.cliques c.row_form_laws.ensures.columns
     c.box_laws.ensures.live c.sound.ensures.plant
 
 pub returns-clause-ranges : goal.returns-clause-ranges
