@@ -6,10 +6,10 @@ use Rattle.std.specs.Option.{option_map_or}
 use Rattle.std.proofs.lemmas.Bool.{and_parts, or_cases, leb-true, eqb-true}
 use Rattle.std.proofs.lemmas.Option.{same_Some}
 use Rattle.std.proofs.lemmas.Slice.Eq.{bytes_eq-Decides}
-use Rattle.limits.specs.declared.TheConstants.{MOST_HORIZON, MOST_NODES, MOST_SLOTS}
+use Rattle.limits.specs.declared.TheConstants.{MOST_HORIZON, MOST_NODES, MOST_SLOTS, MOST_WORKERS}
 use Rattle.line_text.specs.Decimal.{decimal_of}
 use Rattle.line_text.proofs.DecimalLaws.{decimal_of-some}
-use Rattle.command_line.specs.declared.TheConstants.{MOST_ASKED_WORKERS, MOST_NUMBER}
+use Rattle.command_line.specs.declared.TheConstants.{MOST_NUMBER}
 use Rattle.command_line.specs.declared.command.Command.TheVariants.{Solve, Check, Replay, Show, Make, Root, Replan, Recheck}
 use Rattle.command_line.specs.declared.form.Form.{Form}
 use Rattle.command_line.specs.declared.form.Form.TheVariants as form
@@ -176,11 +176,11 @@ nine_words (x0 ∷ x1 ∷ x2 ∷ x3 ∷ x4 ∷ x5 ∷ x6 ∷ x7 ∷ x8 ∷ x9 �
 solve_line : (words : List Text) → is_solve words ≡ true → HasForm form.Solve words
 solve_line words holds =
     let tests = and6 (eqb (length words) 8) (is_word 0 (codes "solve") words) (is_file 1 words) (is_among_three 2 (codes "--slots") 1 MOST_SLOTS words)
-    (is_among_three 2 (codes "--nodes") 0 MOST_NODES words) (is_among_three 2 (codes "--workers") 1 MOST_ASKED_WORKERS words) holds in
+    (is_among_three 2 (codes "--nodes") 0 MOST_NODES words) (is_among_three 2 (codes "--workers") 1 MOST_WORKERS words) holds in
     let verb = word_is 0 (codes "solve") words tests.1 in
     let slots = option_is 2 (codes "--slots") 1 MOST_SLOTS words (omega arith) tests.3 in
     let nodes = option_is 2 (codes "--nodes") 0 MOST_NODES words (omega arith) tests.4 in
-    let workers = option_is 2 (codes "--workers") 1 MOST_ASKED_WORKERS words (omega arith) tests.5 in
+    let workers = option_is 2 (codes "--workers") 1 MOST_WORKERS words (omega arith) tests.5 in
     let options = in_some_order (codes "--slots", slots.number) (codes "--nodes", nodes.number) (codes "--workers", workers.number)
     (differ (codes "--slots") (codes "--nodes") refl) (differ (codes "--slots") (codes "--workers") refl) (differ (codes "--nodes") (codes "--workers") refl)
     (word_at 2 words) (word_at 3 words) (word_at 4 words) (word_at 5 words) (word_at 6 words)

@@ -6,13 +6,13 @@ use Rattle.std.specs.Option.{option_map_or}
 use Rattle.std.specs.Str.{bytes_eq}
 use Rattle.std.proofs.lemmas.Bool.{le-leb, or_left, or_right}
 use Rattle.std.proofs.lemmas.Option.{same_Some}
-use Rattle.limits.specs.declared.TheConstants.{MOST_HORIZON, MOST_NODES, MOST_SLOTS}
+use Rattle.limits.specs.declared.TheConstants.{MOST_HORIZON, MOST_NODES, MOST_SLOTS, MOST_WORKERS}
 use Rattle.line_text.specs.Decimal.{decimal_of}
 use Rattle.line_text.proofs.DecimalLaws.{decimal_of-decimal}
 use Rattle.clap.specs.Takes.{level_passes, settle_passes, takes}
 use Rattle.clap.specs.Walk.{Row, Walk, finished, nothing_held, rows_after, settled_rows, walk_from}
 use Rattle.clap.specs.Simple.{Shape, subcommand_of}
-use Rattle.command_line.specs.declared.TheConstants.{MOST_ASKED_WORKERS, MOST_NUMBER}
+use Rattle.command_line.specs.declared.TheConstants.{MOST_NUMBER}
 use Rattle.command_line.specs.declared.command.Ask.{Ask}
 use Rattle.command_line.specs.declared.command.Command.{Command}
 use Rattle.command_line.specs.declared.command.Command.TheVariants.{Solve, Check, Replay, Show, Make, Root, Replan, Recheck}
@@ -111,7 +111,7 @@ solve_passes plant ask words line =
     let plant_is : is_file_word plant ≡ true = line.in_range.0 in
     let slots_is = in_range 1 MOST_SLOTS ask.slots line.in_range.1.0 line.in_range.1.1 (omega arith) in
     let nodes_is = in_range 0 MOST_NODES ask.nodes (omega arith) line.in_range.1.2 (omega arith) in
-    let workers_is = in_range 1 MOST_ASKED_WORKERS ask.workers line.in_range.2 line.in_range.3 (omega arith) in
+    let workers_is = in_range 1 MOST_WORKERS ask.workers line.in_range.2 line.in_range.3 (omega arith) in
     solve_words plant ask words line (λ ws. is_solve ws ≡ true)
     (rw (plant_is, slots_is, nodes_is, workers_is) refl)
     (rw (plant_is, slots_is, nodes_is, workers_is) refl)

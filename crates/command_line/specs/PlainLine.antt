@@ -2,8 +2,8 @@
 -- line in each of the four definitions that go by commands.
 use Rattle.std.specs.Prelude.{◌≡◌, ℕ, ◌≤◌, Bool, true, false, not, nat_le, ◌&&◌, ◌==◌, IsTrue, List, [], ◌∷◌, ◌++◌, length, slice_index, All, Contains, codes, decimal}
 use Rattle.std.specs.List.{flat_map}
-use Rattle.limits.specs.declared.TheConstants.{MOST_HORIZON, MOST_NODES, MOST_SLOTS}
-use Rattle.command_line.specs.declared.TheConstants.{LONGEST_FILE_WORD, MOST_ASKED_WORKERS, MOST_NUMBER}
+use Rattle.limits.specs.declared.TheConstants.{MOST_HORIZON, MOST_NODES, MOST_SLOTS, MOST_WORKERS}
+use Rattle.command_line.specs.declared.TheConstants.{LONGEST_FILE_WORD, MOST_NUMBER}
 use Rattle.command_line.specs.declared.command.Command.{Command}
 use Rattle.command_line.specs.declared.command.Command.TheVariants.{Solve, Check, Replay, Show, Make, Root, Replan, Recheck}
 
@@ -44,7 +44,7 @@ IsSearchInRange slots nodes = (1 ≤ slots) × (slots ≤ MOST_SLOTS) × (nodes 
 -- what a command names is in range: its files are named by file words, and its numbers are no more than they may be
 abbrev pub IsInRange : Command → Type 0
 IsInRange (Solve plant ask) = IsTrue (is_file_word plant) × IsSearchInRange ask.slots ask.nodes ×
-    (1 ≤ ask.workers) × (ask.workers ≤ MOST_ASKED_WORKERS)
+    (1 ≤ ask.workers) × (ask.workers ≤ MOST_WORKERS)
 IsInRange (Check plant dossier) = IsTrue (is_file_word plant) × IsTrue (is_file_word dossier)
 IsInRange (Replay plant plan) = IsTrue (is_file_word plant) × IsTrue (is_file_word plan)
 IsInRange (Show plant) = IsTrue (is_file_word plant)

@@ -4,8 +4,8 @@ ghost use Rattle.command_line.specs.inside.Forms.{word_at, is_word, is_file, is_
 ghost use Rattle.command_line.specs.inside.Forms.{is_solve, is_check, is_replay, is_show, is_make, is_make_and_solve};
 ghost use Rattle.command_line.specs.inside.Forms.{is_root, is_replan, is_recheck, form_among};
 
-use crate::{LONGEST_FILE_WORD, MOST_ASKED_WORKERS, MOST_NUMBER};
-use limits::{MOST_HORIZON, MOST_NODES, MOST_SLOTS};
+use crate::{LONGEST_FILE_WORD, MOST_NUMBER};
+use limits::{MOST_HORIZON, MOST_NODES, MOST_SLOTS, MOST_WORKERS};
 use line_text::read_decimal;
 
 /// Which command a line says.
@@ -94,7 +94,7 @@ fn is_solve(words: &[String]) -> bool
         && is_file(words, 1)
         && is_among_three(words, 2, "--slots", 1, u32::from(MOST_SLOTS))
         && is_among_three(words, 2, "--nodes", 0, MOST_NODES)
-        && is_among_three(words, 2, "--workers", 1, MOST_ASKED_WORKERS)
+        && is_among_three(words, 2, "--workers", 1, MOST_WORKERS)
 }
 
 fn is_check(words: &[String]) -> bool

@@ -20,8 +20,5 @@ pub use reading::{line_laws, read_words};
 /// The longest word that names a file, in bytes.
 pub const LONGEST_FILE_WORD: usize = 255;
 
-/// The most workers that a line may ask for. So far one: `limits::MOST_WORKERS` once a search is shared among threads.
-pub const MOST_ASKED_WORKERS: u32 = 1;
-
 /// The greatest number of a line: that of a plant that is made.
 pub const MOST_NUMBER: u32 = 4_294_967_295;

@@ -27,7 +27,7 @@ use Rattle.crude_run.specs.Completeness.{IsAtHand, IsPlantAtHand, NoWriteFailed,
 -- ---- statuses
 
 -- the status of a dossier
-dossier_status : (parts : Parts) (ask : Ask) (answer : Answer) → Solves parts ask.slots ask.nodes answer → HasDossierStatus parts ask answer.status
+dossier_status : (parts : Parts) (ask : Ask) (answer : Answer) → Solves parts ask.slots ask.nodes ask.workers answer → HasDossierStatus parts ask answer.status
 dossier_status parts ask answer solved = by_word solved.dossier.answer refl
   where
     by_word : (word : Word3) → solved.dossier.answer ≡ word → HasDossierStatus parts ask answer.status

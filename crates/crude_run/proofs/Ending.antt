@@ -23,8 +23,8 @@ status_below Plan = omega arith
 status_below Infeasible = omega arith
 status_below Open3 = omega arith
 
-solves_below : (parts : Parts) (n budget : ℕ) (answer : Answer) → Solves parts n budget answer → answer.status < 71
-solves_below parts n budget answer owed = rw owed.status (status_below owed.dossier.answer)
+solves_below : (parts : Parts) (n budget workers : ℕ) (answer : Answer) → Solves parts n budget workers answer → answer.status < 71
+solves_below parts n budget workers answer owed = rw owed.status (status_below owed.dossier.answer)
 
 checks_below : (parts : Parts) (text : List ℕ) (answer : Answer) → Checks parts text answer → answer.status < 71
 checks_below parts text answer (inl accepted) = rw accepted.says (omega arith)
@@ -62,7 +62,7 @@ read_below number Then below longer answer owed = rw owed (omega arith)
 -- an answer that a command calls for has a status below those of runs that end short
 pub serves_below : (command : Command) (files : Files) (answer : Answer) → Serves command files answer → answer.status < 71
 serves_below (Solve plant ask) files answer (read, may, owed) =
-    read_below 1 _ (λ text. plant_below _ (λ parts. solves_below parts ask.slots ask.nodes) (plant_of text)) read answer owed
+    read_below 1 _ (λ text. plant_below _ (λ parts. solves_below parts ask.slots ask.nodes ask.workers) (plant_of text)) read answer owed
 serves_below (Check plant dossier) files answer (read, may, owed) =
     read_below 1 _ (λ text. plant_below _ (λ parts due second. read_below 2 _ (checks_below parts) second.0 due second.2) (plant_of text)) read answer owed
 serves_below (Replay plant plan) files answer (read, may, owed) =

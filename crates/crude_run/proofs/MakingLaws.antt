@@ -71,7 +71,7 @@ trial_points-counted parts root points is shape counted =
 
 -- ---- what is claimed
 
-module _ (parts : Parts) (found : Answer) (text : List ℕ) (same : text ≡ found.text) (solves : Solves parts trial_slots trial_budget found) where
+module _ (parts : Parts) (found : Answer) (text : List ℕ) (same : text ≡ found.text) (solves : Solves parts trial_slots trial_budget 1 found) where
   abbrev dossier : Dossier
   dossier = solves.dossier
 

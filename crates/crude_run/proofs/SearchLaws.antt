@@ -1,12 +1,11 @@
--- What a search by one worker gives, step by step.
-use Rattle.std.proofs.Common.{◌≡◌, ℕ, ℤ, inl, inr, ◌≤◌, false, true, Option, Some, None, List, [], ◌∷◌, ◌++◌, length, map, get_or, refl, sym, ap, ap₂, ◌∙◌, subst, arith}
-use Rattle.std.specs.Prelude.{◌⊎◌, All, Bool, Contains, IfSome, if◌then◌else◌, int_lt}
-use Rattle.std.proofs.lemmas.List.{append-nil}
-use Rattle.std.proofs.lemmas.List.Elements.{All-nil, All-cons, All-head, All-tail, All-push, All-weaker, Contains-append_cases, Contains-append_left, Contains-push}
-use Rattle.limits.specs.declared.TheConstants.{MOST_NODES}
+-- What a search by one worker or by several gives, step by step.
+use Rattle.std.proofs.Common.{◌≡◌, ℕ, ℤ, ◌+◌, ◌≤◌, false, true, Option, Some, None, List, [], ◌∷◌, ◌++◌, append_assoc, length, map, refl, sym, ap, ap₂, ◌∙◌, subst, arith}
+use Rattle.std.specs.Prelude.{◌⊎◌, All, Bool, IfSome, if◌then◌else◌, int_lt}
+use Rattle.std.proofs.lemmas.List.{append-nil, length-map, map-append}
+use Rattle.std.proofs.lemmas.List.Elements.{All-append, All-nil, All-cons, All-head, All-tail, All-push, All-weaker, Contains-append_left, Contains-append_right, Contains-push, recursion_from_All}
+use Rattle.limits.specs.declared.TheConstants.{MOST_NODES, MOST_OWN_CUTS, MOST_SEATS}
 use Rattle.number_laws.specs.Missing.{IsAtMost, greater}
-use Rattle.number_laws.proofs.MissingLaws.{IsAtMost-trans, IsGreaterOf-greater}
-use Rattle.number_counts.specs.Counts.{HasEachBelow}
+use Rattle.number_laws.proofs.MissingLaws.{IsAtMost-refl, IsAtMost-trans, IsGreaterOf-greater}
 use Rattle.greedy_plan.specs.Greedy.{all_operations, greedy_of}
 use Rattle.plan_build.specs.Built.{IsBuilt, found_margin}
 use Rattle.plant_model.specs.declared.parts.Parts.{Parts}
@@ -24,26 +23,22 @@ use Rattle.slot_box.specs.declared.term.Term.{Term}
 use Rattle.slot_box.specs.declared.term.Term.TheVariants.{Row, Cut}
 use Rattle.slot_box.specs.Boxes.{IsBox}
 use Rattle.slot_box.specs.Laws.{OpenLeavesCost}
-use Rattle.slot_box.specs.Tasks.{TaskParts, task_of}
+use Rattle.slot_box.specs.Tasks.{TaskParts}
 use Rattle.slot_forms.specs.Cases.{plain, root_box}
 use Rattle.leaf_value.specs.Budget.{KeepsBudget}
 use Rattle.leaf_value.specs.LeafValue.{AreLawfulTerms, IsLawfulLeaf, IsLawfulTerm}
 use Rattle.leaf_value.specs.Settings.{Setting, plain_setting}
-use Rattle.search_board.specs.Seats.{BoardView, IsClosing, SeatView, first_seat, joined_seat}
-use Rattle.work_chains.specs.BoxChains.{AreBoxChains, BoxTask}
-use Rattle.work_chains.specs.Chains.{TakesAllHanded, tickets_of}
-use Rattle.work_chains.specs.Laws.{ChainsSettle}
+use Rattle.search_board.specs.Seats.{BoardView, IsClosing, SeatView}
 use Rattle.search_node.specs.declared.looked.NodeNote.{NodeNote}
-use Rattle.search_node.specs.Notes.{NoteOver, box_note, notes_over}
-use Rattle.branch_worker.specs.declared.site.Alone.{Alone}
-use Rattle.branch_worker.specs.declared.site.AloneDone.{AloneDone}
+use Rattle.search_node.specs.Notes.{NoteOver, notes_over}
 use Rattle.branch_worker.specs.NoteBoxes.{IsOutcome, IsTrueNote}
-use Rattle.branch_worker.specs.NoteOrder.{AreSeenInTurn, ValuesFall}
-use Rattle.branch_worker.specs.Work.{IsAloneDone, IsLeftWell, box_task, IsSeenBetween}
+use Rattle.branch_worker.specs.Work.{IsSeenBetween}
 use Rattle.search_gather.specs.Gathered.{AreOfTree, AreSettledOver, IsGathered, IsTreeOf}
-use Rattle.search_gather.specs.Numbered.{AreCutLists, leaf_numbered, node_numbered, note_numbered, notes_of, term_numbered}
-use Rattle.crude_run.specs.Searched.{IsFound, IsGreatestNoted, IsNotedValue, leaf_value_noted}
-use Rattle.crude_run.specs.Worked.{KnewMargin}
+use Rattle.search_gather.specs.Numbered.{AreCutLists, leaf_numbered, node_numbered, note_numbered, notes_from, notes_of, term_numbered}
+use Rattle.search_team.specs.declared.team.Together.{Together}
+use Rattle.search_team.specs.Teamwork.{HaveNoCuts, IsAlone, IsTogether, all_over, lists_over}
+use Rattle.crude_run.specs.Searched.{IsFound, IsGreatestNoted, IsNotedValue, IsReadySeat, IsSearched, all_noted, leaf_value_noted}
+use Rattle.crude_run.specs.Worked.{KnewMargin, root_task}
 use Rattle.crude_run.proofs.BuiltLaws.{built-better, built-earns, plan-built}
 use Rattle.crude_run.proofs.TreeLaws.{bound-is, budget-kept, lawful as lawful-tree, numbers, thorough}
 
@@ -83,6 +78,48 @@ module _ (notes : List NodeNote) (note : NodeNote) where
         there = there-more bound (leaf_value_noted note) refl so_far.there;
       }
 
+-- ---- and in the notes of all workers
+
+module _ (a b : List NodeNote) where
+  there-joined : (x y : Option ℤ) → IfSome x (IsNotedValue a) → IfSome y (IsNotedValue b) → IfSome (greater x y) (IsNotedValue (a ++ b))
+  there-joined None None first second = tt
+  there-joined None (Some y) first (each, inside, is) = (each, Contains-append_right a b each inside, is)
+  there-joined (Some x) None (each, inside, is) second = (each, Contains-append_left a b each inside, is)
+  there-joined (Some x) (Some y) (each, inside, is) (other, within, also) = chosen (int_lt x y) refl
+    where
+      chosen : (less : Bool) → int_lt x y ≡ less → IsNotedValue (a ++ b) (if int_lt x y then y else x)
+      chosen true less = rw less (other, Contains-append_right a b other within, also)
+      chosen false less = rw less (each, Contains-append_left a b each inside, is)
+
+  pub greatest-joined : (x y : Option ℤ) → IsGreatestNoted a x → IsGreatestNoted b y → IsGreatestNoted (a ++ b) (greater x y)
+  greatest-joined x y first second =
+      let rise = IsGreaterOf-greater x y in
+      record {
+        most = All-append (IsBelow (greater x y)) a b
+            (All-weaker (IsBelow x) (IsBelow (greater x y)) (λ each below. IsAtMost-trans (leaf_value_noted each) x (greater x y) below rise.first) a first.most)
+            (All-weaker (IsBelow y) (IsBelow (greater x y)) (λ each below. IsAtMost-trans (leaf_value_noted each) y (greater x y) below rise.second) b second.most);
+        there = there-joined x y first.there second.there;
+      }
+
+all_noted-push : (lists : List (List NodeNote)) (notes : List NodeNote) → all_noted (lists ++ notes ∷ []) ≡ all_noted lists ++ notes
+all_noted-push [] notes = append-nil notes
+all_noted-push (first ∷ lists) notes =
+    ap (λ (l : List NodeNote). first ++ l) (all_noted-push lists notes) ∙ sym (append_assoc first (all_noted lists) notes)
+
+pub greatest-more_lists : (lists : List (List NodeNote)) (notes : List NodeNote) (x y : Option ℤ) → IsGreatestNoted (all_noted lists) x → IsGreatestNoted notes y →
+    IsGreatestNoted (all_noted (lists ++ notes ∷ [])) (greater x y)
+greatest-more_lists lists notes x y first second =
+    subst (λ (l : List NodeNote). IsGreatestNoted l (greater x y)) (sym (all_noted-push lists notes)) (greatest-joined (all_noted lists) notes x y first second)
+
+-- the notes over boxes of all workers are the notes of all workers
+notes_over-append : (a b : List NoteOver) → notes_over (a ++ b) ≡ notes_over a ++ notes_over b
+notes_over-append a b = map-append (λ (each : NoteOver). each.note) a b
+
+all_noted-over : (lists : List (List NoteOver)) → all_noted (lists_over lists) ≡ notes_over (all_over lists)
+all_noted-over [] = refl
+all_noted-over (over ∷ lists) =
+    ap (λ (l : List NodeNote). notes_over over ++ l) (all_noted-over lists) ∙ sym (notes_over-append over (all_over lists))
+
 -- ---- notes without cuts keep their entries
 
 module _ (setting : Setting) (none : setting.cuts ≡ []) (cuts : List NamedCut) where
@@ -114,28 +151,72 @@ module _ (setting : Setting) (none : setting.cuts ≡ []) (cuts : List NamedCut)
       (ap (λ (node : Node). record { id = first.note.id; node = node; value = first.note.value; seen = first.note.seen }) same)
       (notes-numbered over (All-tail (IsTrueNote setting) first over true_notes))
 
--- ---- the notes of one worker are those of a whole tree
+-- ---- so do those of all workers, of whom none has a cut
 
-pub alone-settled : (setting : Setting) → setting.cuts ≡ [] → (root : List Slot) (t : ℕ) (cuts : List NamedCut) (notes : List NodeNote) (over : List NoteOver) (kept : List BoxTask)
-    (tickets : List ℕ) → ChainsSettle → notes ≡ notes_over over → All (IsTrueNote setting) over →
-    AreBoxChains ((0, root) ∷ kept) (map box_note over) kept None → tickets ≡ tickets_of (map box_note over) → HasEachBelow t tickets →
-    AreSettledOver root t (notes_of (notes ∷ []) (cuts ∷ [])) over
-alone-settled setting none root t cuts notes over kept tickets settle are true_notes chains used each = record {
-  notes_are = sym (append-nil (map (note_numbered 0 cuts) notes) ∙ ap (map (note_numbered 0 cuts)) are ∙ notes-numbered setting none cuts over true_notes);
-  settled = settle root t ((0, root) ∷ kept) kept (map box_note over) chains takes (subst (HasEachBelow t) used each);
+all-left : {X : Type 0} (P : X → Type 0) (xs ys : List X) → All P (xs ++ ys) → All P xs
+all-left P [] ys all = All-nil P
+all-left P (x ∷ xs) ys all = All-cons P x xs (All-head P x (xs ++ ys) all) (all-left P xs ys (All-tail P x (xs ++ ys) all))
+
+all-right : {X : Type 0} (P : X → Type 0) (xs ys : List X) → All P (xs ++ ys) → All P ys
+all-right P [] ys all = all
+all-right P (x ∷ xs) ys all = all-right P xs ys (All-tail P x (xs ++ ys) all)
+
+module _ (setting : Setting) (none : setting.cuts ≡ []) where
+  pub all-numbered : (lists : List (List NoteOver)) (cuts : List (List NamedCut)) → HaveNoCuts cuts → length cuts ≡ length lists →
+      All (IsTrueNote setting) (all_over lists) → notes_from 0 (lists_over lists) cuts ≡ notes_over (all_over lists)
+  all-numbered [] cuts empty each true_notes = refl
+  all-numbered (over ∷ lists) [] empty each true_notes = absurd (omega (arith, each))
+  all-numbered (over ∷ lists) (own ∷ cuts) empty each true_notes =
+      let here : own ≡ [] = All-head (λ (list : List NamedCut). list ≡ []) own cuts empty in
+      let kept = notes-numbered setting none own over (all-left (IsTrueNote setting) over (all_over lists) true_notes) in
+      let nothing : 0 + length own ≡ 0 = (let few = ap (length {A = NamedCut}) here in omega (arith, few)) in
+      let rest = all-numbered lists cuts (All-tail (λ (list : List NamedCut). list ≡ []) own cuts empty) (omega (arith, each))
+      (all-right (IsTrueNote setting) over (all_over lists) true_notes) in
+      ap₂ (λ (l m : List NodeNote). l ++ m) kept (ap (λ (from : ℕ). notes_from from (lists_over lists) cuts) nothing ∙ rest)
+      ∙ sym (notes_over-append over (all_over lists))
+
+pub small-lists : (cuts : List (List NamedCut)) → HaveNoCuts cuts → All (λ (list : List NamedCut). length list ≤ MOST_OWN_CUTS) cuts
+small-lists cuts empty =
+    All-weaker (λ (list : List NamedCut). list ≡ []) (λ (list : List NamedCut). length list ≤ MOST_OWN_CUTS)
+    (λ own none. (let few = ap (length {A = NamedCut}) none in omega (arith, few))) cuts empty
+
+-- ---- what workers gave back
+
+pub searched-alone : (parts : Parts) (n workers : ℕ) (board : BoardView) (first : Option ℤ) (seat : SeatView) (root : TaskParts) (together : Together) →
+    IsReadySeat board first seat → root ≡ root_task parts n → IsAlone parts n root seat together → IsSearched parts n workers board first together
+searched-alone parts n workers board first seat root together ready root_is given = record {
+  before = seat;
+  ready = ready;
+  lists = is.over ∷ [];
+  work = is.work;
+  notes = is.notes;
+  cuts = subst HaveNoCuts (sym is.cuts)
+      (All-cons (λ (own : List NamedCut). own ≡ []) [] [] refl (All-nil (λ (own : List NamedCut). own ≡ [])));
+  each = (let own = ap (length {A = List NamedCut}) is.cuts in let notes = ap (length {A = List NodeNote}) is.notes in omega (arith, own, notes));
+  few = (let notes = ap (length {A = List NodeNote}) is.notes in omega (arith, notes));
+  alone = λ one. (is.over, refl, is.order);
 }
   where
-    takes : TakesAllHanded root ((0, root) ∷ kept) kept
-    takes = record { counts = λ x. refl; tasks = among }
-      where
-        only : (task : BoxTask) → Contains ((0, root) ∷ []) task → task ≡ (0, root)
-        only task (k, inside, is) = (let zero : k ≡ 0 = omega (arith, inside) in sym (subst (λ (i : ℕ). get_or ((0, root) ∷ []) i task ≡ task) zero is))
+    is : IsAlone parts n (root_task parts n) seat together
+    is = subst (λ (task : TaskParts). IsAlone parts n task seat together) root_is given
 
-        among : (task : BoxTask) → Contains ((0, root) ∷ kept) task → (task ≡ (0, root)) ⊎ Contains kept task
-        among task there = elim (Contains-append_cases ((0, root) ∷ []) kept task there) [
-          | inl first ↦ inl (only task first)
-          | inr rest ↦ inr rest
-        ]
+pub searched-together : (parts : Parts) (n workers : ℕ) (board : BoardView) (first : Option ℤ) (seat : SeatView) (root : TaskParts) (together : Together) →
+    2 ≤ workers → IsReadySeat board first seat → root ≡ root_task parts n → IsTogether parts n root seat together →
+    IsSearched parts n workers board first together
+searched-together parts n workers board first seat root together several ready root_is given = record {
+  before = seat;
+  ready = ready;
+  lists = is.lists;
+  work = is.work;
+  notes = is.notes;
+  cuts = is.cuts;
+  each = is.each;
+  few = is.few;
+  alone = λ one. absurd (omega (arith, several, one));
+}
+  where
+    is : IsTogether parts n (root_task parts n) seat together
+    is = subst (λ (task : TaskParts). IsTogether parts n task seat together) root_is given
 
 -- ---- the end
 
@@ -155,110 +236,116 @@ greater-below (Some a) (Some b) most first second = chosen (int_lt a b) refl
     chosen true less = rw less second
     chosen false less = rw less first
 
-module _ (parts : Parts) (n budget : ℕ) (me : Alone) (done : AloneDone) (is : IsAloneDone parts n me done)
-    (starts : me.first ≡ task_of 0 (root_box (plain parts n)) 1 [] ∷ []) (t : ℕ) (each : HasEachBelow t done.seat.tickets) (settle : ChainsSettle) where
+module _ (parts : Parts) (n workers : ℕ) (board : BoardView) (first : Option Planned) (together : Together)
+    (is : IsSearched parts n workers board (found_margin first) together) where
   abbrev setting : Setting
   setting = plain_setting parts n
 
   abbrev root : List Slot
   root = root_box (plain parts n)
 
-  chains : AreBoxChains ((0, root) ∷ is.taken.kept) (map box_note is.over) is.taken.kept None
-  chains = subst (λ (tasks : List TaskParts). AreBoxChains (map box_task tasks ++ is.taken.kept) (map box_note is.over) is.taken.kept None) starts is.taken.chains
+  abbrev over : List NoteOver
+  over = all_over is.lists
 
-  pub settled : AreSettledOver root t (notes_of (done.notes ∷ []) (done.cuts ∷ [])) is.over
-  settled = alone-settled setting refl root t done.cuts done.notes is.over is.taken.kept done.seat.tickets settle is.work.notes_are is.work.true_notes chains is.taken.used each
+  -- no seat is lost, and all are at the board
+  pub seats : together.seat.stands + together.seat.may ≡ MOST_SEATS
+  seats = let kept = is.work.seats in let stands = is.ready.stands in let may = is.ready.may in omega (arith, kept, stands, may)
 
-  pub of-tree : t ≤ MOST_NODES → AreOfTree (notes_of (done.notes ∷ []) (done.cuts ∷ []))
-  of-tree few = record { root = root; t = t; over = is.over; few = few; settled = settled }
+  pub at-board : together.seat.board ≡ board
+  at-board = is.work.board ∙ is.ready.board
 
-  pub cut-lists : AreCutLists (done.notes ∷ []) (done.cuts ∷ [])
+  pub cut-lists : AreCutLists together.notes together.cuts
   cut-lists = record {
-    few = omega arith;
-    each = refl;
-    small = (rw is.cuts (omega arith), tt);
+    few = is.few;
+    each = is.each;
+    small = recursion_from_All (λ (list : List NamedCut). length list ≤ MOST_OWN_CUTS) together.cuts (small-lists together.cuts is.cuts);
   }
 
-  -- what was found, where the tree is that of the notes, and the board was closed with these tickets
-  pub IsFound-alone : (first best : Option Planned) (most bound : Option ℤ) (tree : List Node) → IsBuilt parts n (all_operations parts) first →
-      IsAtMost (found_margin first) me.seat.seen → t ≤ budget → budget ≤ MOST_NODES → ((number : ℕ) → done.seat.told ≡ Some number → t ≡ budget) → most ≡ greater (found_margin first) done.seat.offer →
-      IsAtMost done.seat.seen most → IsTreeOf (notes_of (done.notes ∷ []) (done.cuts ∷ [])) tree → IsGreatestNoted done.notes bound →
-      found_margin best ≡ greater (found_margin first) (found_margin done.found) → (best ≡ first) ⊎ (best ≡ done.found) → OpenLeavesCost → IsBox root →
-      IsFound parts n budget (record { tickets = t; tree = tree; best = best; bound = bound })
-  IsFound-alone first best most bound tree built began within few told offered seen is_tree greatest rise either cost is_box = record {
-    inner = gathered.inner;
-    nodes = gathered.nodes;
-    numbers = numbers setting t tree is.over gathered is.work.true_notes (omega (arith, within, few));
-    tickets = gathered.tickets;
-    parents = gathered.parents;
-    lawful = lawful-tree setting t tree is.over gathered is.work.true_notes;
-    thorough = thorough setting t tree is.over gathered is.work.true_notes;
-    worked = record {
-      over = is.over;
-      kept = is.taken.kept;
-      chains = chains;
-      gathered = gathered;
-      true_notes = is.work.true_notes;
-      in_turn = subst AreSeenInTurn is.work.notes_are is.work.in_turn;
-      falling = subst ValuesFall is.work.notes_are is.work.falling;
-      earned = earned;
-      first = known;
-    };
-    bound = bound-is setting t tree is.over gathered is.work.true_notes bound (subst (λ (l : List NodeNote). IsGreatestNoted l bound) is.work.notes_are greatest);
-    plan = plan-built parts n (all_operations parts) best better_built;
-    built = better_built;
-    budget_kept = subst (KeepsBudget setting budget tree) best_is
-        (budget-kept setting t tree is.over gathered is.work.true_notes budget done.seat most (subst (All (IsLeftWell done.seat)) is.work.notes_are is.work.left) within told at_most
-        is_box cost);
-  }
+  noted : notes_over over ≡ notes_of together.notes together.cuts
+  noted =
+      sym (ap (λ (l : List (List NodeNote)). notes_of l together.cuts) is.notes
+      ∙ all-numbered setting refl is.lists together.cuts is.cuts as-many is.work.true_notes)
     where
-      gathered : IsGathered root t is.over tree
-      gathered = is_tree root t is.over settled
+      as-many : length together.cuts ≡ length is.lists
+      as-many = is.each ∙ ap (length {A = List NodeNote}) is.notes ∙ length-map is.lists notes_over
 
-      better_built : IsBuilt parts n (all_operations parts) best
-      better_built = built-better parts n (all_operations parts) first done.found best built is.work.best.plan rise either
+  all-noted : all_noted together.notes ≡ notes_over over
+  all-noted = ap all_noted is.notes ∙ all_noted-over is.lists
 
-      best_is : most ≡ found_margin best
-      best_is = offered ∙ ap (greater (found_margin first)) is.work.best.offered ∙ sym rise
+  module _ (budget t : ℕ) (most : Option ℤ) (tickets : board.budget ≡ budget) (fits : budget ≤ MOST_NODES) (closing : IsClosing together.seat t most) where
+    seat-budget : together.seat.board.budget ≡ budget
+    seat-budget = ap (λ (b : BoardView). b.budget) at-board ∙ tickets
 
-      earned : All (λ (each : NoteOver). IsAtMost each.note.seen (found_margin best)) is.over
-      earned = all-unmap (λ (note : NodeNote). IsAtMost note.seen (found_margin best)) is.over (subst (All (λ (note : NodeNote). IsAtMost note.seen (found_margin best))) is.work.notes_are
-          (All-weaker (IsSeenBetween me.seat.seen done.seat.seen) (λ (note : NodeNote). IsAtMost note.seen (found_margin best))
-          (λ note between. subst (IsAtMost note.seen) best_is (IsAtMost-trans note.seen done.seat.seen most between.still seen)) done.notes is.work.seen))
+    pub within : t ≤ budget
+    within = let less = closing.within in let same = seat-budget in omega (arith, less, same)
 
-      known : IsLegal parts (greedy_of parts n (all_operations parts)) → All (KnewMargin (greedy_of parts n (all_operations parts)) parts) is.over
-      known legal =
-          let margin : Option ℤ = Some (margin_of parts (greedy_of parts n (all_operations parts))) in
-          let earns = built-earns parts n (all_operations parts) first built legal in
-          all-unmap (λ (note : NodeNote). IsAtMost margin note.seen) is.over (subst (All (λ (note : NodeNote). IsAtMost margin note.seen)) is.work.notes_are
-          (All-weaker (IsSeenBetween me.seat.seen done.seat.seen) (λ (note : NodeNote). IsAtMost margin note.seen)
-          (λ note between. IsAtMost-trans margin me.seat.seen note.seen (IsAtMost-trans margin (found_margin first) me.seat.seen earns began) between.since)
-          done.notes is.work.seen))
+    settled : AreSettledOver root t (notes_of together.notes together.cuts) over
+    settled = record { notes_are = noted; settled = is.work.settles t closing.each }
 
-      at_most : IsAtMost (greater done.seat.offer done.seat.seen) most
-      at_most = greater-below done.seat.offer done.seat.seen most
-          (subst (IsAtMost done.seat.offer) (sym offered) (IsGreaterOf-greater (found_margin first) done.seat.offer).second) seen
+    pub of-tree : AreOfTree (notes_of together.notes together.cuts)
+    of-tree = record { root = root; t = t; over = over; few = (let less = within in omega (arith, less, fits)); settled = settled }
 
--- ---- a board that is closed when one worker is done
+    -- what was found, where the tree is that of the notes
+    pub IsFound-from : (best : Option Planned) (bound : Option ℤ) (tree : List Node) → IsBuilt parts n (all_operations parts) first →
+        IsTreeOf (notes_of together.notes together.cuts) tree → IsGreatestNoted (all_noted together.notes) bound →
+        found_margin best ≡ greater (found_margin first) (found_margin together.found) → (best ≡ first) ⊎ (best ≡ together.found) → OpenLeavesCost → IsBox root →
+        IsFound parts n budget workers (record { tickets = t; tree = tree; best = best; bound = bound })
+    IsFound-from best bound tree built is_tree greatest rise either cost is_box = record {
+      inner = gathered.inner;
+      nodes = gathered.nodes;
+      numbers = numbers setting t tree over gathered is.work.true_notes (let less = within in omega (arith, less, fits));
+      tickets = gathered.tickets;
+      parents = gathered.parents;
+      lawful = lawful-tree setting t tree over gathered is.work.true_notes;
+      thorough = thorough setting t tree over gathered is.work.true_notes;
+      worked = record {
+        lists = is.lists;
+        gathered = gathered;
+        true_notes = is.work.true_notes;
+        in_turn = is.work.in_turn;
+        falling = is.work.falling;
+        earned = earned;
+        first = known;
+        alone = is.alone;
+      };
+      bound = bound-is setting t tree over gathered is.work.true_notes bound (subst (λ (l : List NodeNote). IsGreatestNoted l bound) all-noted greatest);
+      plan = plan-built parts n (all_operations parts) best better_built;
+      built = better_built;
+      budget_kept = subst (KeepsBudget setting budget tree) best_is
+          (budget-kept setting t tree over gathered is.work.true_notes budget together.seat most is.work.left within told at_most is_box cost);
+    }
+      where
+        gathered : IsGathered root t over tree
+        gathered = is_tree root t over settled
 
--- what closing tells of the one seat that worked, where another has offered the margin of a first plan
-pub record IsClosedAlone (budget : ℕ) (its : SeatView) (first : Option ℤ) (t : ℕ) (best : Option ℤ) : Type 0 where
-  pub each : HasEachBelow t its.tickets
-  pub within : t ≤ budget
-  pub told : (number : ℕ) → its.told ≡ Some number → t ≡ budget
-  pub offered : best ≡ greater first its.offer
-  pub seen : IsAtMost its.seen best
+        better_built : IsBuilt parts n (all_operations parts) best
+        better_built = built-better parts n (all_operations parts) first together.found best built is.work.plan rise either
 
-pub closed-alone : (board : BoardView) (first seen best : Option ℤ) (looks may t : ℕ) (from its joined : SeatView) →
-    from ≡ record (first_seat board) { offer = first; seen = seen; looks = looks; may = may } → joined ≡ joined_seat from its → IsClosing joined t best →
-    IsClosedAlone board.budget its first t best
-closed-alone board first seen best looks may t from its joined from_is joined_is closing = record {
-  each = is.each;
-  within = is.within;
-  told = is.spent;
-  offered = is.offered;
-  seen = IsAtMost-trans its.seen (greater seen its.seen) best (IsGreaterOf-greater seen its.seen).second is.seen;
-}
-  where
-    is : IsClosing (joined_seat (record (first_seat board) { offer = first; seen = seen; looks = looks; may = may }) its) t best
-    is = subst (λ (s : SeatView). IsClosing s t best) (joined_is ∙ ap (λ (s : SeatView). joined_seat s its) from_is) closing
+        best_is : most ≡ found_margin best
+        best_is =
+            closing.offered ∙ is.work.offered ∙ ap (λ (offer : Option ℤ). greater offer (found_margin together.found)) is.ready.offer ∙ sym rise
+
+        told : (number : ℕ) → together.seat.told ≡ Some number → t ≡ budget
+        told number spent = closing.spent number spent ∙ seat-budget
+
+        seen_between : All (λ (each : NoteOver). IsSeenBetween is.before.seen together.seat.seen each.note) over
+        seen_between = all-unmap (IsSeenBetween is.before.seen together.seat.seen) over is.work.seen
+
+        earned : All (λ (each : NoteOver). IsAtMost each.note.seen (found_margin best)) over
+        earned =
+            All-weaker (λ (each : NoteOver). IsSeenBetween is.before.seen together.seat.seen each.note) (λ (each : NoteOver). IsAtMost each.note.seen (found_margin best))
+            (λ each between. subst (IsAtMost each.note.seen) best_is (IsAtMost-trans each.note.seen together.seat.seen most between.still closing.seen)) over seen_between
+
+        known : IsLegal parts (greedy_of parts n (all_operations parts)) → All (KnewMargin (greedy_of parts n (all_operations parts)) parts) over
+        known legal =
+            let margin : Option ℤ = Some (margin_of parts (greedy_of parts n (all_operations parts))) in
+            let earns = built-earns parts n (all_operations parts) first built legal in
+            All-weaker (λ (each : NoteOver). IsSeenBetween is.before.seen together.seat.seen each.note) (KnewMargin (greedy_of parts n (all_operations parts)) parts)
+            (λ each between.
+            IsAtMost-trans margin is.before.seen each.note.seen (IsAtMost-trans margin (found_margin first) is.before.seen earns is.ready.seen) between.since)
+            over seen_between
+
+        at_most : IsAtMost (greater together.seat.offer together.seat.seen) most
+        at_most =
+            greater-below together.seat.offer together.seat.seen most
+            (subst (IsAtMost together.seat.offer) (sym closing.offered) (IsAtMost-refl together.seat.offer)) closing.seen

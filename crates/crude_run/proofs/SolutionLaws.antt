@@ -35,7 +35,7 @@ use Rattle.crude_run.specs.Solving.{IsSolution}
 
 -- ---- the dossiers of a search that has ended
 
-module _ (parts : Parts) (n budget : ℕ) (some : 1 ≤ n) (most : n ≤ MOST_SLOTS) (nodes : budget ≤ MOST_NODES) (claims : AcceptedClaimsAreTrue parts)
+module _ (parts : Parts) (n budget workers : ℕ) (some : 1 ≤ n) (most : n ≤ MOST_SLOTS) (nodes : budget ≤ MOST_NODES) (claims : AcceptedClaimsAreTrue parts)
     (bounds : TreeBoundsAreTrue (plain_setting parts n)) (t : ℕ) (tree : List Node) where
   abbrev setting : Setting
   setting = plain_setting parts n
@@ -58,7 +58,7 @@ module _ (parts : Parts) (n budget : ℕ) (some : 1 ≤ n) (most : n ≤ MOST_SL
   abbrev found_of : Option Planned → Option ℤ → Found
   found_of best bound = record { tickets = t; tree = tree; best = best; bound = bound }
 
-  module _ (best : Option Planned) (bound : Option ℤ) (found : IsFound parts n budget (found_of best bound)) where
+  module _ (best : Option Planned) (bound : Option ℤ) (found : IsFound parts n budget workers (found_of best bound)) where
     abbrev margin : Option ℤ
     margin = found_margin best
 
@@ -106,7 +106,7 @@ module _ (parts : Parts) (n budget : ℕ) (some : 1 ≤ n) (most : n ≤ MOST_SL
     }
 
   -- no leaf has a value
-  pub IsSolution-infeasible : IsFound parts n budget (found_of None None) → IsSolution parts n budget (dossier_of Infeasible None None None)
+  pub IsSolution-infeasible : IsFound parts n budget workers (found_of None None) → IsSolution parts n budget workers (dossier_of Infeasible None None None)
   IsSolution-infeasible found = record {
     slots = refl;
     readable = readable None None found Infeasible None tt tt tt;
@@ -127,8 +127,8 @@ module _ (parts : Parts) (n budget : ℕ) (some : 1 ≤ n) (most : n ≤ MOST_SL
       accept = accepted None None found Infeasible None tt tt
 
   -- no plan was found
-  pub IsSolution-open : (bound : ℤ) → IsFound parts n budget (found_of None (Some bound)) → FitsSigned w64 bound →
-      IsSolution parts n budget (dossier_of Open3 None (Some bound) None)
+  pub IsSolution-open : (bound : ℤ) → IsFound parts n budget workers (found_of None (Some bound)) → FitsSigned w64 bound →
+      IsSolution parts n budget workers (dossier_of Open3 None (Some bound) None)
   IsSolution-open bound found fits = record {
     slots = refl;
     readable = readable None (Some bound) found Open3 None tt fits tt;
@@ -149,7 +149,7 @@ module _ (parts : Parts) (n budget : ℕ) (some : 1 ≤ n) (most : n ≤ MOST_SL
       accept = accepted None (Some bound) found Open3 None tt tt
 
   -- a plan was found
-  module _ (planned : Planned) (bound : Option ℤ) (lines : List OpLine) (found : IsFound parts n budget (found_of (Some planned) bound))
+  module _ (planned : Planned) (bound : Option ℤ) (lines : List OpLine) (found : IsFound parts n budget workers (found_of (Some planned) bound))
       (steps : plan_of parts lines ≡ planned.plan) (numbered : AreOpLines 1 lines) (margin_fits : FitsSigned w64 planned.margin)
       (bound_fits : IfSome bound (FitsSigned w64)) where
     given : IsPlanOf parts n planned.margin (plan_of parts lines)
@@ -189,7 +189,7 @@ module _ (parts : Parts) (n budget : ℕ) (some : 1 ≤ n) (most : n ≤ MOST_SL
     decided few =
         same_bound bound found.bound (λ value is. elim (value_cases (Some planned) bound found value is) [ inl left ↦ absurd (left.1 few) | inr most ↦ most ])
 
-    pub IsSolution-plan : IsSolution parts n budget (dossier_of Plan (Some planned.margin) bound (Some lines))
+    pub IsSolution-plan : IsSolution parts n budget workers (dossier_of Plan (Some planned.margin) bound (Some lines))
     IsSolution-plan = record {
       slots = refl;
       readable = readable (Some planned) bound found Plan (Some lines) margin_fits bound_fits (few_lines, numbered);
@@ -207,8 +207,8 @@ module _ (parts : Parts) (n budget : ℕ) (some : 1 ≤ n) (most : n ≤ MOST_SL
     }
 
   -- whichever of these is claimed
-  pub IsSolution-from : (best : Option Planned) (bound : Option ℤ) (head : Head) → IsFound parts n budget (found_of best bound) → IsHeadOf parts best bound head
-      → IfSome head.margin (FitsSigned w64) → IfSome bound (FitsSigned w64) → IsSolution parts n budget (dossier_of head.answer head.margin bound head.plan)
+  pub IsSolution-from : (best : Option Planned) (bound : Option ℤ) (head : Head) → IsFound parts n budget workers (found_of best bound) → IsHeadOf parts best bound head
+      → IfSome head.margin (FitsSigned w64) → IfSome bound (FitsSigned w64) → IsSolution parts n budget workers (dossier_of head.answer head.margin bound head.plan)
   IsSolution-from None None head found (answer, margin, plan) margin_fits bound_fits =
       rw (answer, margin, plan) (IsSolution-infeasible found)
   IsSolution-from None (Some bound) head found (answer, margin, plan) margin_fits bound_fits =

@@ -47,7 +47,7 @@ IsNotBuilt answer = answer ≡ words_refused
 
 -- the answer that a command calls for, by these files
 abbrev pub Serves : Command → Files → Answer → Type 0
-Serves (Solve plant ask) files answer = OfPlantFile files plant (λ parts. Solves parts ask.slots ask.nodes) answer
+Serves (Solve plant ask) files answer = OfPlantFile files plant (λ parts. Solves parts ask.slots ask.nodes ask.workers) answer
 Serves (Check plant dossier) files answer =
     OfPlantFile files plant (λ parts. OfFile files 2 dossier dossier_limit (Checks parts)) answer
 Serves (Replay plant plan) files answer =

@@ -16,10 +16,10 @@ use Rattle.crude_run.specs.Solving.{IsSolution}
 abbrev pub MakesPlant : ℕ → Answer → Type 0
 MakesPlant number answer = answer ≡ shown (made_parts number)
 
--- the dossier of a small search for the plant
+-- the dossier of a small search for the plant, by one worker
 pub record IsTrial (parts : Parts) (dossier : Dossier) : Type 0 where
   -- it answers what was asked
-  pub solution : IsSolution parts trial_slots trial_budget dossier
+  pub solution : IsSolution parts trial_slots trial_budget 1 dossier
   -- its text is accepted, with what it claims
   pub accepted : IsAcceptedText parts (dossier_bytes dossier) (claim_of parts dossier)
 

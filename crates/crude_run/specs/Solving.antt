@@ -30,8 +30,8 @@ status_of Infeasible = status_infeasible
 status_of Open3 = status_none_found
 
 -- a dossier that answers what was asked: plans of at most n operations, by a tree of at most the budget's number of
--- inner nodes
-pub record IsSolution (parts : Parts) (n budget : ℕ) (dossier : Dossier) : Type 0 where
+-- inner nodes, made by so many workers
+pub record IsSolution (parts : Parts) (n budget workers : ℕ) (dossier : Dossier) : Type 0 where
   pub slots : dossier.slots ≡ n
   -- its text is read again as the dossier, and its plan's lines are a plan text
   pub readable : IsReadable dossier
@@ -47,8 +47,8 @@ pub record IsSolution (parts : Parts) (n budget : ℕ) (dossier : Dossier) : Typ
   pub budget_kept : KeepsBudget (plain_setting parts n) budget dossier.tree dossier.margin
   -- each node of its tree was searched thoroughly
   pub thorough : IsThorough (plain_setting parts n) dossier.tree
-  -- and one worker made the tree, who divided a box only where its value beat the best margin that was seen by then
-  pub worked : IsWorkedOff parts n dossier.nodes dossier.tree dossier.margin
+  -- and so many workers made the tree, who divided a box only where its value beat the best margin that they had seen
+  pub worked : IsWorkedOff parts n workers dossier.nodes dossier.tree dossier.margin
   -- so its bound is the margin unless all were divided
   pub bound : dossier.answer ≡ Plan → dossier.nodes < budget → dossier.bound ≡ dossier.margin
   -- no plan was found only where all were
@@ -62,8 +62,8 @@ pub record IsSolution (parts : Parts) (n budget : ℕ) (dossier : Dossier) : Typ
       → (dossier.answer ≡ Infeasible) ⊎ ((dossier.answer ≡ Plan) × (dossier.bound ≡ dossier.margin))
 
 -- what `solve` answers: the text of such a dossier, with the status of its answer
-pub record Solves (parts : Parts) (n budget : ℕ) (answer : Answer) : Type 0 where
+pub record Solves (parts : Parts) (n budget workers : ℕ) (answer : Answer) : Type 0 where
   pub dossier : Dossier
-  pub solution : IsSolution parts n budget dossier
+  pub solution : IsSolution parts n budget workers dossier
   pub status : answer.status ≡ status_of dossier.answer
   pub text : answer.text ≡ dossier_bytes dossier

@@ -10,6 +10,7 @@ ghost use Rattle.crude_run.specs.Searched.{IsFound};
 ghost use Rattle.crude_run.specs.Solving.{IsSolution};
 
 use crate::search::Found;
+use command_line::Ask;
 use dossier_check::accepted_claim_laws;
 use dossier_text::{Dossier, Word3};
 use item_lists::{Copies, Items};
@@ -100,15 +101,14 @@ fn head_of(
 pub(crate) fn conclude(
     alloc: Global,
     plant: &Plant,
-    slots: u32,
-    nodes: u32,
+    ask: Ask,
     found: Found,
 ) -> Result<Dossier, AllocError>
-    requires some_slots { 1 ≤ slots }
-    requires most_slots { slots ≤ MOST_SLOTS }
-    requires most_nodes { nodes ≤ MOST_NODES }
-    requires found { IsFound plant.now slots nodes found }
-    ensures { IfOk result (IsSolution plant.now slots nodes) }
+    requires some_slots { 1 ≤ ask.slots }
+    requires most_slots { ask.slots ≤ MOST_SLOTS }
+    requires most_nodes { ask.nodes ≤ MOST_NODES }
+    requires found { IsFound plant.now ask.slots ask.nodes ask.workers found }
+    ensures { IfOk result (IsSolution plant.now ask.slots ask.nodes ask.workers) }
 {
     legal_plan_laws();
     accepted_claim_laws(plant);
@@ -122,7 +122,7 @@ pub(crate) fn conclude(
     } = found;
     let head = head_of(alloc, plant, best, bound)?;
     Ok(Dossier {
-        slots,
+        slots: ask.slots,
         nodes: tickets,
         answer: head.answer,
         margin: head.margin,

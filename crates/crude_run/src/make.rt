@@ -83,7 +83,7 @@ fn trial_claim(alloc: Global, plant: &Plant) -> Result<Claim, AllocError>
 
 /// What the text that was found claims of the plant, as the checker reads it.
 fn checked_claim(alloc: Global, plant: &Plant, found: &Answer) -> Result<Claim, AllocError>
-    requires { Solves plant.now trial_slots trial_budget found.now }
+    requires { Solves plant.now trial_slots trial_budget 1 found.now }
     ensures { IfOk result (IsTrialClaim plant.now) }
 {
     let verdict = check(alloc, plant, found.text.as_slice())?;

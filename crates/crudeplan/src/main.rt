@@ -26,6 +26,6 @@ fn main(rt: HostRuntime) -> ExitCode {
     };
     let mut shelf = DirShelf::new(&rt);
     let mut out = OutSink::new(&rt);
-    let status = run(rt.alloc(), &words, &mut shelf, &mut out, &FreeGate);
+    let status = run(&rt, rt.alloc(), &words, &mut shelf, &mut out, &FreeGate);
     ExitCode::from(status.code())
 }

@@ -10,3 +10,4 @@ mod runs;
 mod samples;
 mod shows;
 mod sinks;
+mod together;

@@ -2,9 +2,9 @@
 use Rattle.std.specs.Prelude.{◌≡◌, ℕ, ◌+◌, Bool, false, nat_le, ◌&&◌, ◌||◌, ◌==◌, List, [], length, slice_index_or, Option, Some, None, if◌then◌else◌, codes}
 use Rattle.std.specs.Option.{option_map_or}
 use Rattle.std.specs.Str.{bytes_eq}
-use Rattle.limits.specs.declared.TheConstants.{MOST_HORIZON, MOST_NODES, MOST_SLOTS}
+use Rattle.limits.specs.declared.TheConstants.{MOST_HORIZON, MOST_NODES, MOST_SLOTS, MOST_WORKERS}
 use Rattle.line_text.specs.Decimal.{decimal_of}
-use Rattle.command_line.specs.declared.TheConstants.{MOST_ASKED_WORKERS, MOST_NUMBER}
+use Rattle.command_line.specs.declared.TheConstants.{MOST_NUMBER}
 use Rattle.command_line.specs.declared.command.Command.{Command}
 use Rattle.command_line.specs.declared.command.Command.TheVariants.{Solve, Check, Replay, Show, Make, Root, Replan, Recheck}
 use Rattle.command_line.specs.declared.form.Form.{Form}
@@ -44,7 +44,7 @@ abbrev pub is_solve : List (List ℕ) → Bool
 is_solve words = length words == 8 && is_word 0 (codes "solve") words && is_file 1 words
     && is_among_three 2 (codes "--slots") 1 MOST_SLOTS words
     && is_among_three 2 (codes "--nodes") 0 MOST_NODES words
-    && is_among_three 2 (codes "--workers") 1 MOST_ASKED_WORKERS words
+    && is_among_three 2 (codes "--workers") 1 MOST_WORKERS words
 
 abbrev pub is_check : List (List ℕ) → Bool
 is_check words = length words == 3 && is_word 0 (codes "check") words && is_file 1 words && is_file 2 words

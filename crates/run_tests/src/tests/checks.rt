@@ -7,24 +7,30 @@ use super::samples::{
 };
 use std::alloc::{AllocError, Global};
 use std::process::Abort;
+use std::sync::Wait;
 use std::test::Fail;
+use std::thread::Threads;
 
 const CHECK: &str = "check plant dossier";
 
-fn checked(alloc: Global, dossier: &[u8]) -> Result<Ended, AllocError> {
-    outcome_with(alloc, CHECK, one_charge().as_bytes(), dossier, SOUND)
+fn checked(
+    rt: &(impl Threads + Wait + Sync),
+    alloc: Global,
+    dossier: &[u8],
+) -> Result<Ended, AllocError> {
+    outcome_with(rt, alloc, CHECK, one_charge().as_bytes(), dossier, SOUND)
 }
 
 #[test]
 fn says_yes_of_one_dual(rt: HostRuntime) -> Result<(), Fail> {
-    let ended = checked(rt.alloc(), one_dual().as_bytes())?;
+    let ended = checked(&rt, rt.alloc(), one_dual().as_bytes())?;
     assert_ended(&rt, &ended, 0, yes_of_twelve());
     Ok(())
 }
 
 #[test]
 fn says_yes_of_split_once(rt: HostRuntime) -> Result<(), Fail> {
-    let ended = checked(rt.alloc(), split_once().as_bytes())?;
+    let ended = checked(&rt, rt.alloc(), split_once().as_bytes())?;
     assert_ended(&rt, &ended, 0, yes_of_twelve());
     Ok(())
 }
@@ -32,8 +38,8 @@ fn says_yes_of_split_once(rt: HostRuntime) -> Result<(), Fail> {
 #[test]
 fn says_yes_of_what_solve_writes(rt: HostRuntime) -> Result<(), Fail> {
     let line = "solve plant --slots 1 --nodes 45 --workers 1";
-    let solved = outcome(rt.alloc(), line, one_charge().as_bytes(), SOUND)?;
-    let ended = checked(rt.alloc(), solved.written())?;
+    let solved = outcome(&rt, rt.alloc(), line, one_charge().as_bytes(), SOUND)?;
+    let ended = checked(&rt, rt.alloc(), solved.written())?;
     assert_ended(&rt, &ended, 0, yes_of_twelve());
     Ok(())
 }
@@ -44,8 +50,8 @@ fn says_yes_where_there_is_no_plan(rt: HostRuntime) -> Result<(), Fail> {
     let alloc = rt.alloc();
     let plant = fixed_rate().as_bytes();
     let line = "solve plant --slots 1 --nodes 45 --workers 1";
-    let solved = outcome(alloc, line, plant, SOUND)?;
-    let ended = outcome_with(alloc, CHECK, plant, solved.written(), SOUND)?;
+    let solved = outcome(&rt, alloc, line, plant, SOUND)?;
+    let ended = outcome_with(&rt, alloc, CHECK, plant, solved.written(), SOUND)?;
     let answer = "yes\nanswer infeasible\nmargin none\nbound none\n";
     assert_ended(&rt, &ended, 0, answer);
     Ok(())
@@ -53,7 +59,7 @@ fn says_yes_where_there_is_no_plan(rt: HostRuntime) -> Result<(), Fail> {
 
 #[test]
 fn says_yes_of_a_bound_alone(rt: HostRuntime) -> Result<(), Fail> {
-    let ended = checked(rt.alloc(), one_charge_open().as_bytes())?;
+    let ended = checked(&rt, rt.alloc(), one_charge_open().as_bytes())?;
     let answer = "yes\nanswer open\nmargin none\nbound 12\n";
     assert_ended(&rt, &ended, 0, answer);
     Ok(())
@@ -85,6 +91,7 @@ fn divided_box_cases() -> &'static [Case] {
 
 /// How `check` of the dossier with the other part ends, against this plant.
 fn checked_with(
+    rt: &(impl Threads + Wait + Sync),
     alloc: Global,
     plant: &str,
     file: &str,
@@ -92,19 +99,26 @@ fn checked_with(
     other: &str,
 ) -> Result<Ended, Fail> {
     let changed = with(alloc, file, part, other)?;
-    let ended = outcome_with(alloc, CHECK, plant.as_bytes(), changed.as_bytes(), SOUND)?;
+    let ended = outcome_with(
+        rt,
+        alloc,
+        CHECK,
+        plant.as_bytes(),
+        changed.as_bytes(),
+        SOUND,
+    )?;
     Ok(ended)
 }
 
 fn assert_refused(
-    rt: &impl Abort,
+    rt: &(impl Abort + Threads + Wait + Sync),
     alloc: Global,
     plant: &str,
     file: &str,
     refused: &[Case],
 ) -> Result<(), Fail> {
     for (part, other, answer) in refused {
-        let ended = checked_with(alloc, plant, file, part, other)?;
+        let ended = checked_with(rt, alloc, plant, file, part, other)?;
         assert_ended(rt, &ended, 1, answer);
     }
     Ok(())
@@ -136,7 +150,7 @@ fn says_no_of_a_divided_box(rt: HostRuntime) -> Result<(), Fail> {
 #[test]
 fn reads_points_by_slots(rt: HostRuntime) -> Result<(), Fail> {
     let (plant, dossier) = (two_units().as_bytes(), late_first().as_bytes());
-    let ended = outcome_with(rt.alloc(), CHECK, plant, dossier, SOUND)?;
+    let ended = outcome_with(&rt, rt.alloc(), CHECK, plant, dossier, SOUND)?;
     assert_ended(&rt, &ended, 0, "yes\nanswer plan\nmargin -2\nbound -2\n");
     Ok(())
 }
@@ -169,20 +183,20 @@ fn says_no_of_a_late_first_charge(rt: HostRuntime) -> Result<(), Fail> {
 }
 
 /// Whether `one_dual` without this line and those below it is refused at it.
-fn misses_line(alloc: Global, line: u32) -> Result<bool, Fail> {
+fn misses_line(rt: &(impl Threads + Wait + Sync), alloc: Global, line: u32) -> Result<bool, Fail> {
     let mut cut = String::new(alloc);
     let kept = (line as usize).saturating_sub(1);
     for part in one_dual().split_inclusive('\n').take(kept) {
         cut.push_str(part)?;
     }
     let answer = format!(in alloc; "no 1 {line}\n")?;
-    Ok(checked(alloc, cut.as_bytes())?.is(1, answer.as_str()))
+    Ok(checked(rt, alloc, cut.as_bytes())?.is(1, answer.as_str()))
 }
 
 #[test]
 fn misses_the_next_line(rt: HostRuntime) -> Result<(), Fail> {
     for line in 1..=12 {
-        assert!(rt; misses_line(rt.alloc(), line)?, "{line}");
+        assert!(rt; misses_line(&rt, rt.alloc(), line)?, "{line}");
     }
     Ok(())
 }
@@ -190,7 +204,7 @@ fn misses_the_next_line(rt: HostRuntime) -> Result<(), Fail> {
 // The plant is refused before the dossier is read.
 #[test]
 fn refuses_the_plant_first(rt: HostRuntime) -> Result<(), Fail> {
-    let ended = outcome(rt.alloc(), "check dossier other", b"", SOUND)?;
+    let ended = outcome(&rt, rt.alloc(), "check dossier other", b"", SOUND)?;
     assert_ended(&rt, &ended, 65, "refused plant json\n");
     Ok(())
 }
@@ -199,7 +213,7 @@ fn refuses_the_plant_first(rt: HostRuntime) -> Result<(), Fail> {
 #[test]
 fn says_no_of_a_dossier_on_another_plant(rt: HostRuntime) -> Result<(), Fail> {
     let (plant, dossier) = (two_inlets().as_bytes(), one_dual().as_bytes());
-    let ended = outcome_with(rt.alloc(), CHECK, plant, dossier, SOUND)?;
+    let ended = outcome_with(&rt, rt.alloc(), CHECK, plant, dossier, SOUND)?;
     assert_ended(&rt, &ended, 1, "no 15 7\n");
     Ok(())
 }
@@ -209,17 +223,22 @@ fn says_no_of_a_dossier_on_another_plant(rt: HostRuntime) -> Result<(), Fail> {
 fn says_yes_of_a_plan_of_a_whole_plant(rt: HostRuntime) -> Result<(), Fail> {
     let plant = two_vessels().as_bytes();
     let line = "solve plant --slots 8 --nodes 3 --workers 1";
-    let solved = outcome(rt.alloc(), line, plant, SOUND)?;
+    let solved = outcome(&rt, rt.alloc(), line, plant, SOUND)?;
     assert_claims(&rt, &solved, 0, "\nanswer plan\n");
-    let ended = outcome_with(rt.alloc(), CHECK, plant, solved.written(), SOUND)?;
+    let ended = outcome_with(&rt, rt.alloc(), CHECK, plant, solved.written(), SOUND)?;
     assert_claims(&rt, &ended, 0, "yes\nanswer plan\nmargin 1");
     Ok(())
 }
 
 /// How `check` of `one_dual` ends where this is outside.
-fn ended_by(alloc: Global, line: &str, outside: Outside) -> Result<Ended, AllocError> {
+fn ended_by(
+    rt: &(impl Threads + Wait + Sync),
+    alloc: Global,
+    line: &str,
+    outside: Outside,
+) -> Result<Ended, AllocError> {
     let plant = one_charge().as_bytes();
-    outcome_with(alloc, line, plant, one_dual().as_bytes(), outside)
+    outcome_with(rt, alloc, line, plant, one_dual().as_bytes(), outside)
 }
 
 #[test]
@@ -235,7 +254,7 @@ fn tells_which_read_failed(rt: HostRuntime) -> Result<(), Fail> {
             piece: 4096,
             ..SOUND
         };
-        let ended = ended_by(rt.alloc(), line, outside)?;
+        let ended = ended_by(&rt, rt.alloc(), line, outside)?;
         assert_ended(&rt, &ended, 66, answer);
     }
     Ok(())
@@ -244,7 +263,7 @@ fn tells_which_read_failed(rt: HostRuntime) -> Result<(), Fail> {
 #[test]
 fn writes_byte_by_byte(rt: HostRuntime) -> Result<(), Fail> {
     let outside = Outside { piece: 1, ..SOUND };
-    let ended = ended_by(rt.alloc(), CHECK, outside)?;
+    let ended = ended_by(&rt, rt.alloc(), CHECK, outside)?;
     assert_ended(&rt, &ended, 0, yes_of_twelve());
     Ok(())
 }
@@ -263,7 +282,7 @@ fn keeps_the_bytes_before_a_fault(rt: HostRuntime) -> Result<(), Fail> {
             piece: 1,
             ..SOUND
         };
-        let ended = ended_by(rt.alloc(), CHECK, outside)?;
+        let ended = ended_by(&rt, rt.alloc(), CHECK, outside)?;
         assert_ended(&rt, &ended, 74, bytes(write - 1));
     }
     Ok(())
@@ -271,7 +290,7 @@ fn keeps_the_bytes_before_a_fault(rt: HostRuntime) -> Result<(), Fail> {
 
 #[test]
 fn keeps_the_pieces_before_a_fault(rt: HostRuntime) -> Result<(), Fail> {
-    let ended = ended_by(rt.alloc(), CHECK, Outside { write: 3, ..SOUND })?;
+    let ended = ended_by(&rt, rt.alloc(), CHECK, Outside { write: 3, ..SOUND })?;
     assert_ended(&rt, &ended, 74, "yes\nanswer plan\nmarg");
     Ok(())
 }
@@ -284,7 +303,7 @@ fn writes_nothing_where_all_fails(rt: HostRuntime) -> Result<(), Fail> {
         write: 1,
         ..SOUND
     };
-    let ended = ended_by(rt.alloc(), CHECK, outside)?;
+    let ended = ended_by(&rt, rt.alloc(), CHECK, outside)?;
     assert_ended(&rt, &ended, 74, "");
     Ok(())
 }

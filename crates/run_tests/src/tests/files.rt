@@ -4,17 +4,23 @@ use super::runs::{Ended, Outside, SOUND, assert_ended, outcome};
 use super::samples::{late_vessel, one_berth, one_charge, one_dual, two_berths, two_vessels, with};
 use std::alloc::{AllocError, Global};
 use std::process::Abort;
+use std::sync::Wait;
 use std::test::Fail;
+use std::thread::Threads;
 
 const SOLVE: &str = "solve plant --slots 1 --nodes 0 --workers 1";
 
-fn solved(alloc: Global, plant: &[u8]) -> Result<Ended, AllocError> {
-    outcome(alloc, SOLVE, plant, SOUND)
+fn solved(
+    rt: &(impl Threads + Wait + Sync),
+    alloc: Global,
+    plant: &[u8],
+) -> Result<Ended, AllocError> {
+    outcome(rt, alloc, SOLVE, plant, SOUND)
 }
 
 #[test]
 fn plans_one_charge_without_a_node(rt: HostRuntime) -> Result<(), Fail> {
-    let ended = solved(rt.alloc(), one_charge().as_bytes())?;
+    let ended = solved(&rt, rt.alloc(), one_charge().as_bytes())?;
     assert_ended(&rt, &ended, 0, one_dual());
     Ok(())
 }
@@ -91,19 +97,24 @@ fn cases() -> [(&'static str, &'static [Case]); 5] {
 }
 
 /// How `solve` of the plant with the other part ends.
-fn solved_with(alloc: Global, plant: &str, case: Case) -> Result<Ended, Fail> {
+fn solved_with(
+    rt: &(impl Threads + Wait + Sync),
+    alloc: Global,
+    plant: &str,
+    case: Case,
+) -> Result<Ended, Fail> {
     let changed = with(alloc, plant, case.0, case.1)?;
-    Ok(solved(alloc, changed.as_bytes())?)
+    Ok(solved(rt, alloc, changed.as_bytes())?)
 }
 
 fn assert_refused(
-    rt: &impl Abort,
+    rt: &(impl Abort + Threads + Wait + Sync),
     alloc: Global,
     plant: &str,
     refused: &[Case],
 ) -> Result<(), Fail> {
     for case in refused {
-        let ended = solved_with(alloc, plant, *case)?;
+        let ended = solved_with(rt, alloc, plant, *case)?;
         assert_ended(rt, &ended, 65, case.2);
     }
     Ok(())
@@ -120,7 +131,7 @@ fn refuses_plants(rt: HostRuntime) -> Result<(), Fail> {
 #[test]
 fn cannot_read_what_is_not_there(rt: HostRuntime) -> Result<(), Fail> {
     let line = "solve other --slots 1 --nodes 0 --workers 1";
-    let ended = outcome(rt.alloc(), line, one_charge().as_bytes(), SOUND)?;
+    let ended = outcome(&rt, rt.alloc(), line, one_charge().as_bytes(), SOUND)?;
     assert_ended(&rt, &ended, 66, "read failed 1\n");
     Ok(())
 }
@@ -128,7 +139,7 @@ fn cannot_read_what_is_not_there(rt: HostRuntime) -> Result<(), Fail> {
 #[test]
 fn tells_that_a_read_failed(rt: HostRuntime) -> Result<(), Fail> {
     let failing = Outside { read: 1, ..SOUND };
-    let ended = outcome(rt.alloc(), SOLVE, one_charge().as_bytes(), failing)?;
+    let ended = outcome(&rt, rt.alloc(), SOLVE, one_charge().as_bytes(), failing)?;
     assert_ended(&rt, &ended, 66, "read failed 1\n");
     Ok(())
 }
@@ -141,9 +152,9 @@ fn blanks(alloc: Global, count: usize) -> Result<Vec<u8>, AllocError> {
 #[test]
 fn reads_no_more_than_the_limit(rt: HostRuntime) -> Result<(), Fail> {
     let alloc = rt.alloc();
-    let ended = solved(alloc, &blanks(alloc, 4_194_304)?)?;
+    let ended = solved(&rt, alloc, &blanks(alloc, 4_194_304)?)?;
     assert_ended(&rt, &ended, 65, "refused plant json\n");
-    let ended = solved(alloc, &blanks(alloc, 4_194_305)?)?;
+    let ended = solved(&rt, alloc, &blanks(alloc, 4_194_305)?)?;
     assert_ended(&rt, &ended, 67, "too long 1\n");
     Ok(())
 }

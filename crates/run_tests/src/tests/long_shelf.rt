@@ -40,7 +40,7 @@ fn finds_the_dossier_too_long(rt: HostRuntime) -> Result<(), Fail> {
     let mut shelf = LongShelf { reads: 0, longs: 0 };
     let mut out = sink(alloc, SOUND)?;
     let line = words(alloc, "check plant dossier")?;
-    let status = run(alloc, &line, &mut shelf, &mut out, &FreeGate);
+    let status = run(&rt, alloc, &line, &mut shelf, &mut out, &FreeGate);
     assert_eq!(rt; status.code(), 67);
     assert_eq!(rt; out.as_slice(), b"too long 2\n".as_slice());
     Ok(())

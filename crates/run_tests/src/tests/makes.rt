@@ -4,21 +4,23 @@ use super::runs::{Ended, SOUND, assert_ended, outcome, sink};
 use super::samples::made_plant;
 use crude_run::make_text;
 use std::alloc::{AllocError, Global};
+use std::sync::Wait;
 use std::test::Fail;
+use std::thread::Threads;
 
 /// The first lines of the answer to `make 0 --solve`, up to the margin.
 const TRIED: &str =
     "made 0\nsizes 4 1 5 1 11 7200\npoints 29\nbudget 8\nverdict yes\nanswer plan\nmargin ";
 
 /// How a run ends, which reads no file.
-fn made(alloc: Global, line: &str) -> Result<Ended, AllocError> {
-    outcome(alloc, line, b"", SOUND)
+fn made(rt: &(impl Threads + Wait + Sync), alloc: Global, line: &str) -> Result<Ended, AllocError> {
+    outcome(rt, alloc, line, b"", SOUND)
 }
 
 #[test]
 fn makes_the_plant_of_a_number(rt: HostRuntime) -> Result<(), Fail> {
     let wanted = format!(in rt.alloc(); "{}\n", made_plant())?;
-    let ended = made(rt.alloc(), "make 0")?;
+    let ended = made(&rt, rt.alloc(), "make 0")?;
     assert_ended(&rt, &ended, 0, wanted.as_str());
     Ok(())
 }

@@ -9,19 +9,26 @@ use dossier_check::{Verdict, check};
 use outer_edge::FreeGate;
 use plant_text::read_plant;
 use std::alloc::{AllocError, Global};
+use std::sync::Wait;
 use std::test::Fail;
+use std::thread::Threads;
 
 const FULL: &str = "solve plant --slots 1 --nodes 45 --workers 1";
 
 const EIGHT: &str = "solve plant --slots 1 --nodes 8 --workers 1";
 
-fn solved(alloc: Global, line: &str, plant: &str) -> Result<Ended, AllocError> {
-    outcome(alloc, line, plant.as_bytes(), SOUND)
+fn solved(
+    rt: &(impl Threads + Wait + Sync),
+    alloc: Global,
+    line: &str,
+    plant: &str,
+) -> Result<Ended, AllocError> {
+    outcome(rt, alloc, line, plant.as_bytes(), SOUND)
 }
 
 #[test]
 fn charges_all_that_there_is(rt: HostRuntime) -> Result<(), Fail> {
-    let ended = solved(rt.alloc(), FULL, one_charge())?;
+    let ended = solved(&rt, rt.alloc(), FULL, one_charge())?;
     let lines = "\nanswer plan\nmargin 12\nbound 12\nplan 1\nop 1 c1 0 2 4\ncuts 0\n";
     assert_claims(&rt, &ended, 0, lines);
     Ok(())
@@ -29,7 +36,7 @@ fn charges_all_that_there_is(rt: HostRuntime) -> Result<(), Fail> {
 
 #[test]
 fn charges_nothing_at_a_loss(rt: HostRuntime) -> Result<(), Fail> {
-    let ended = solved(rt.alloc(), EIGHT, losing_charge())?;
+    let ended = solved(&rt, rt.alloc(), EIGHT, losing_charge())?;
     let lines = "\nanswer plan\nmargin 0\nbound 0\nplan 0\ncuts 0\n";
     assert_claims(&rt, &ended, 0, lines);
     Ok(())
@@ -38,7 +45,7 @@ fn charges_nothing_at_a_loss(rt: HostRuntime) -> Result<(), Fail> {
 #[test]
 fn waits_no_longer_than_it_must(rt: HostRuntime) -> Result<(), Fail> {
     let line = "solve plant --slots 1 --nodes 125 --workers 1";
-    let ended = solved(rt.alloc(), line, late_vessel())?;
+    let ended = solved(&rt, rt.alloc(), line, late_vessel())?;
     let lines = "\nanswer plan\nmargin -10\nbound -10\nplan 1\nop 1 u1 1 3 4\ncuts 0\n";
     assert_claims(&rt, &ended, 0, lines);
     Ok(())
@@ -54,7 +61,7 @@ fn no_entries_would_not_do(rt: HostRuntime) -> Result<(), Fail> {
         (slow_charge(), 0, "\nanswer plan\nmargin 6\nbound 6\n"),
         (fixed_rate(), 3, "\ncuts 0\nnode 0 void "),
     ] {
-        let ended = solved(rt.alloc(), line, plant)?;
+        let ended = solved(&rt, rt.alloc(), line, plant)?;
         assert_claims(&rt, &ended, status, lines);
     }
     Ok(())
@@ -62,7 +69,7 @@ fn no_entries_would_not_do(rt: HostRuntime) -> Result<(), Fail> {
 
 #[test]
 fn finds_that_there_is_no_plan(rt: HostRuntime) -> Result<(), Fail> {
-    let ended = solved(rt.alloc(), FULL, fixed_rate())?;
+    let ended = solved(&rt, rt.alloc(), FULL, fixed_rate())?;
     let lines = "\nanswer infeasible\nmargin none\nbound none\nplan none\ncuts 0\n";
     assert_claims(&rt, &ended, 3, lines);
     Ok(())

@@ -7,12 +7,19 @@ use super::samples::{
 };
 use std::alloc::{AllocError, Global};
 use std::process::Abort;
+use std::sync::Wait;
 use std::test::Fail;
+use std::thread::Threads;
 
 const REPLAY: &str = "replay plant plan";
 
-fn replayed(alloc: Global, plant: &str, plan: &[u8]) -> Result<Ended, AllocError> {
-    outcome_with(alloc, REPLAY, plant.as_bytes(), plan, SOUND)
+fn replayed(
+    rt: &(impl Threads + Wait + Sync),
+    alloc: Global,
+    plant: &str,
+    plan: &[u8],
+) -> Result<Ended, AllocError> {
+    outcome_with(rt, alloc, REPLAY, plant.as_bytes(), plan, SOUND)
 }
 
 // A plan, the status, and lines that stand in the answer.
@@ -90,9 +97,14 @@ fn cases() -> [(&'static str, &'static [Case]); 6] {
     ]
 }
 
-fn assert_replays(rt: &impl Abort, alloc: Global, plant: &str, plans: &[Case]) -> Result<(), Fail> {
+fn assert_replays(
+    rt: &(impl Abort + Threads + Wait + Sync),
+    alloc: Global,
+    plant: &str,
+    plans: &[Case],
+) -> Result<(), Fail> {
     for (plan, status, lines) in plans {
-        let ended = replayed(alloc, plant, plan.as_bytes())?;
+        let ended = replayed(rt, alloc, plant, plan.as_bytes())?;
         assert_claims(rt, &ended, *status, lines);
     }
     Ok(())
@@ -108,15 +120,19 @@ fn replays_plans(rt: HostRuntime) -> Result<(), Fail> {
 
 #[test]
 fn writes_the_ledger(rt: HostRuntime) -> Result<(), Fail> {
-    let ended = replayed(rt.alloc(), two_inlets(), two_inlets_plan().as_bytes())?;
+    let ended = replayed(&rt, rt.alloc(), two_inlets(), two_inlets_plan().as_bytes())?;
     assert_ended(&rt, &ended, 0, two_inlets_ledger());
     Ok(())
 }
 
 // A plan file of so many blanks.
-fn blanks(alloc: Global, count: usize) -> Result<Ended, AllocError> {
+fn blanks(
+    rt: &(impl Threads + Wait + Sync),
+    alloc: Global,
+    count: usize,
+) -> Result<Ended, AllocError> {
     let plan = vec![in alloc; b' '; count]?;
-    replayed(alloc, one_charge(), &plan)
+    replayed(rt, alloc, one_charge(), &plan)
 }
 
 #[test]
@@ -125,7 +141,7 @@ fn reads_no_more_of_a_plan_than_the_limit(rt: HostRuntime) -> Result<(), Fail> {
         (4_194_304, 68, "refused plan line 1\n"),
         (4_194_305, 67, "too long 2\n"),
     ] {
-        let ended = blanks(rt.alloc(), count)?;
+        let ended = blanks(&rt, rt.alloc(), count)?;
         assert_ended(&rt, &ended, status, answer);
     }
     Ok(())
@@ -147,7 +163,7 @@ fn reads_the_plant_first(rt: HostRuntime) -> Result<(), Fail> {
         (REPLAY, one_charge(), 1, 66, "read failed 1\n"),
     ] {
         let outside = Outside { read, ..SOUND };
-        let ended = outcome_with(rt.alloc(), line, plant.as_bytes(), b"", outside)?;
+        let ended = outcome_with(&rt, rt.alloc(), line, plant.as_bytes(), b"", outside)?;
         assert_ended(&rt, &ended, status, answer);
     }
     Ok(())

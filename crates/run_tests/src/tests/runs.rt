@@ -2,9 +2,11 @@
 
 use crude_run::run;
 use item_lists::Copies;
-use outer_edge::{CallList, FileList, FreeGate, MemoryShelf, MemorySink};
+use outer_edge::{CallList, FileList, FreeGate, Gate, MemoryShelf, MemorySink};
 use std::alloc::{AllocError, Global};
 use std::process::Abort;
+use std::sync::Wait;
+use std::thread::Threads;
 
 /// The most bytes that a sink of most runs takes at a time.
 pub const PIECE: u32 = 10;
@@ -105,26 +107,40 @@ pub fn sink(alloc: Global, outside: Outside) -> Result<MemorySink, AllocError> {
 
 /// How a run on this plant ends.
 pub fn outcome(
+    rt: &(impl Threads + Wait + Sync),
     alloc: Global,
     line: &str,
     plant: &[u8],
     outside: Outside,
 ) -> Result<Ended, AllocError> {
-    outcome_with(alloc, line, plant, b"", outside)
+    outcome_with(rt, alloc, line, plant, b"", outside)
 }
 
 /// How a run on this plant and this second file ends.
 pub fn outcome_with(
+    rt: &(impl Threads + Wait + Sync),
     alloc: Global,
     line: &str,
     plant: &[u8],
     second: &[u8],
     outside: Outside,
 ) -> Result<Ended, AllocError> {
+    let shelf = shelf(alloc, plant, second, outside)?;
+    outcome_by(rt, alloc, line, shelf, outside, &FreeGate)
+}
+
+/// How a run with this shelf ends, whose workers this gate holds back.
+pub fn outcome_by<R: Threads + Wait + Sync, G: Gate>(
+    rt: &R,
+    alloc: Global,
+    line: &str,
+    mut shelf: MemoryShelf,
+    outside: Outside,
+    gate: &G,
+) -> Result<Ended, AllocError> {
     let words = words(alloc, line)?;
-    let mut shelf = shelf(alloc, plant, second, outside)?;
     let mut out = sink(alloc, outside)?;
-    let status = run(alloc, &words, &mut shelf, &mut out, &FreeGate).code();
+    let status = run(rt, alloc, &words, &mut shelf, &mut out, gate).code();
     let written = Vec::from_slice(alloc, out.as_slice())?;
     Ok(Ended { status, written })
 }

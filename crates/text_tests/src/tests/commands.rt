@@ -80,10 +80,10 @@ fn reading(alloc: Global, line: &str) -> Result<Option<String>, Fail> {
 const PLAIN: &[(&str, &str)] = &[
     ("solve p --slots 1 --nodes 0 --workers 1", "solve p 1 0 1"),
     ("solve p --slots 2 --workers 1 --nodes 3", "solve p 2 3 1"),
-    ("solve p --nodes 7 --slots 3 --workers 1", "solve p 3 7 1"),
+    ("solve p --nodes 7 --slots 3 --workers 2", "solve p 3 7 2"),
     (
-        "solve p --nodes 65535 --workers 1 --slots 40",
-        "solve p 40 65535 1",
+        "solve p --nodes 65535 --workers 16 --slots 40",
+        "solve p 40 65535 16",
     ),
     ("solve p --workers 1 --slots 40 --nodes 9", "solve p 40 9 1"),
     (

@@ -1,0 +1,7 @@
+mod ApartLaws
+mod BenchLaws
+mod DoneLaws
+mod EndLaws
+mod JoinLaws
+mod SeatLaws
+mod TeamLaws

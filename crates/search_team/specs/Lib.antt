@@ -1,0 +1,2 @@
+pub mod Teamwork
+pub mod inside

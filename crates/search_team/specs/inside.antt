@@ -1,0 +1,3 @@
+pub mod Benches
+pub mod Apart
+pub mod Added
